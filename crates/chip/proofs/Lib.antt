@@ -1,0 +1,3 @@
+pub mod Ands
+mod Cleared
+pub mod Steps

@@ -1,0 +1,4 @@
+pub mod Laid
+pub mod Puts
+pub mod Hex
+pub mod Pour

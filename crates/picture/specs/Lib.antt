@@ -1,0 +1,2 @@
+pub mod Protection
+pub mod Shown

@@ -1,0 +1,7 @@
+// A session over any chip.
+mod asking;
+mod look;
+mod rest;
+mod session;
+
+pub use session::Session;

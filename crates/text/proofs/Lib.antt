@@ -1,0 +1,5 @@
+mod Front
+pub mod LinesMore
+mod PartsMore
+mod ReadMore
+mod Shown

@@ -1,0 +1,4 @@
+pub mod Scan
+pub mod Lines
+pub mod Fields
+pub mod Numbers
