@@ -183,14 +183,16 @@ pub fn order_of(part: Part, command: Command) -> Order
     }
 }
 
-fn is_locked(face: Face) -> bool
+// Whether the registers are locked.
+pub fn is_locked(face: Face) -> bool
     ensures { λ r. ⌜ r ≡ locked face ⌝ }
 {
     let r = face.working;
     r.sr2 % 2 == 1 || (r.sr1 / 128 == 1 && (r.sr2 / 2 % 2 == 0 && !face.wp))
 }
 
-fn is_suspended(face: Face) -> bool
+// Whether SUS reads 1.
+pub fn is_suspended(face: Face) -> bool
     ensures { λ r. ⌜ r ≡ suspended face ⌝ }
 {
     face.working.sr2 / 128 == 1

@@ -17,14 +17,14 @@ latch false = Disarmed
 
 abbrev pub foreign-state : Memory → State
 foreign-state m =
-    record
-    { face =
-        record { part = Other (m .number); working = record { sr1 = m .sr1; sr2 = 0; sr3 = 0 }; locks = 0; wp = m .wp }
-    ; stored = record { sr1 = 0; sr2 = 0; sr3 = 0 }
-    ; arming = latch (m .armed)
-    ; busy = m .busy
-    ; slow = 0
-    ; carry = m .carry
+    record {
+      face =
+          record { part = Other (m .number); working = record { sr1 = m .sr1; sr2 = 0; sr3 = 0 }; locks = 0; wp = m .wp };
+      stored = record { sr1 = 0; sr2 = 0; sr3 = 0 };
+      arming = latch (m .armed);
+      busy = m .busy;
+      slow = 0;
+      carry = m .carry;
     }
 
 -- The number is neither of the known ones, and the bounds hold.

@@ -1,9 +1,9 @@
 // The chip itself.
+use crate::memory::Memory;
 use chip::interface::Chip;
 use chip::model::Answer;
 use chip::model::Exchange;
 use chip::model::Question;
-use crate::memory::Memory;
 ghost use Rattle.foreign.specs.Foreign.{foreign-state, Strange, Kept};
 ghost use Rattle.std.specs.Options.{Cases as BySome};
 ghost use Prim.Native.Nat.{_≤_};
@@ -28,7 +28,16 @@ impl ForeignChip {
         if sr1 & 0xFC != sr1 || busy > 1000 || carry > 1_000_000 {
             return None;
         }
-        Some(ForeignChip { memory: Memory { number, sr1, wp: true, armed: false, busy, carry } })
+        Some(ForeignChip {
+            memory: Memory {
+                number,
+                sr1,
+                wp: true,
+                armed: false,
+                busy,
+                carry,
+            },
+        })
     }
 }
 
@@ -39,21 +48,35 @@ pub impl Chip for ForeignChip as ForeignChipIsChip {
         if self.memory.carry == 0 {
             return Answer::Down;
         }
-        let memory = Memory { carry: self.memory.carry - 1, ..self.memory };
+        let memory = Memory {
+            carry: self.memory.carry - 1,
+            ..self.memory
+        };
         match e {
             Exchange::Ask(Question::Status1) => {
                 let wel = if memory.armed { 2 } else { 0 };
                 let busy = if memory.busy == 0 { 0 } else { 1 };
-                self.memory = Memory { busy: memory.busy.saturating_sub(1), ..memory };
+                self.memory = Memory {
+                    busy: memory.busy.saturating_sub(1),
+                    ..memory
+                };
                 Answer::Value(memory.sr1 as u32 + wel + busy)
             }
             Exchange::Ask(Question::PartNumber) => {
                 self.memory = memory;
-                Answer::Value(if memory.busy == 0 { memory.number } else { 0xFF_FFFF })
+                Answer::Value(if memory.busy == 0 {
+                    memory.number
+                } else {
+                    0xFF_FFFF
+                })
             }
             // it owes no answer to another question, and is upset by it
             Exchange::Ask(_) => {
-                self.memory = Memory { busy: 1000, armed: true, ..memory };
+                self.memory = Memory {
+                    busy: 1000,
+                    armed: true,
+                    ..memory
+                };
                 Answer::Carried
             }
             // nor does it owe that a command changes nothing

@@ -2,6 +2,5 @@
 // number, the count of its cable, /WP and SR1, and behaves as it likes in all else.
 pub mod chip_of_another_part;
 pub mod memory;
-
 #[cfg(test)]
 mod tests;

@@ -13,7 +13,7 @@ use Rattle.std.proofs.shelf.Results.{cases-from-err}
 use Rattle.output.specs.declared.Line.{Line}
 use Rattle.output.specs.declared.NoRoom.{NoRoom}
 use Rattle.output.specs.Puts.{Held, Kept, Cut, Puts}
-use Rattle.output.proofs.Lay.{laid-none, length-laid, laid-past, laid-laid, laid-cut}
+use Rattle.places.proofs.Lay.{laid-none, length-laid, laid-past, laid-laid, laid-cut}
 
 -- The line does not reach past its bytes.
 abbrev pub Open : Line → Type 0

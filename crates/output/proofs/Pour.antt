@@ -13,9 +13,9 @@ use Rattle.std.proofs.shelf.Lists.{length-take-le}
 use Rattle.std.proofs.shelf.Results.{cases-from-err}
 use Rattle.std.proofs.shelf.Tests.{both-ways, leb-true, le-leb, lt-leb}
 use Rattle.output.specs.declared.NoRoom.{NoRoom}
-use Rattle.output.specs.Laid.{laid}
+use Rattle.places.specs.Laid.{laid}
 use Rattle.output.specs.Pour.{Whole, Back, Said, Paper, pour, poured, Poured, Pours}
-use Rattle.output.proofs.Lay.{length-laid, laid-over, laid-front, laid-take, take-laid}
+use Rattle.places.proofs.Lay.{length-laid, laid-over, laid-front, laid-take, take-laid}
 
 -- What `p`, the texts `ss` poured, says of pouring more after them.
 record Flows (said : List ℕ) (room : ℕ) (ss : List (List ℕ)) (p : Paper) : Type 0 where

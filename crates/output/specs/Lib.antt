@@ -1,4 +1,3 @@
-pub mod Laid
 pub mod Puts
 pub mod Hex
 pub mod Pour

@@ -7,7 +7,7 @@ use lib.ListN.{length, take}
 use Rattle.std.specs.Results.{Cases}
 use Rattle.std.specs.declared.result.Result.{Result}
 use Rattle.output.specs.declared.NoRoom.{NoRoom}
-use Rattle.output.specs.Laid.{laid}
+use Rattle.places.specs.Laid.{laid}
 
 -- There was room for the line, and it stands after what was there.
 pub record Whole (text : List ℕ) (bytes : List ℕ) (len : ℕ) (bytes′ : List ℕ) (len′ : ℕ) : Type 0 where

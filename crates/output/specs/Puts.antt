@@ -7,7 +7,7 @@ use Rattle.std.specs.Results.{Cases}
 use Rattle.std.specs.declared.result.Result.{Result}
 use Rattle.output.specs.declared.Line.{Line}
 use Rattle.output.specs.declared.NoRoom.{NoRoom}
-use Rattle.output.specs.Laid.{laid}
+use Rattle.places.specs.Laid.{laid}
 
 -- The line writes to the same bytes and counts in the same place, from the same start.
 pub record Held (was is : Line) : Type 0 where

@@ -3,10 +3,11 @@ use crate::array::ArrayCommand;
 use crate::protection;
 use crate::reading::Reading;
 use chip::effect;
+use chip::model::Command;
 ghost use Rattle.chip.specs.Effect.{Plain};
 ghost use Prim.Native.Nat.{_<_, _≤_};
 ghost use Rattle.picture.specs.Protection.{protected, obeys, Judged};
-ghost use Rattle.picture.specs.Shown.{masked, rekeyed, status-shown};
+ghost use Rattle.picture.specs.Shown.{masked, rekeyed, status-shown, followed, busy-shown};
 ghost use Rattle.std.specs.Options.{Cases as BySome};
 ghost use Rattle.units.specs.Units.{array-size};
 ghost use mathlib.Core.Path.{_≡_};
@@ -62,6 +63,26 @@ impl Picture {
         ensures { λ r. ⌜ BySome r (array-size ≤ address) (λ b. (address < array-size) × ((b ≡ obeys (now (self .entry) .reading .face) command address) × Judged b (now (self .entry) .reading .face) command address)) ⌝ }
     {
         protection::obeys(self.reading.face, command, address)
+    }
+
+    // A command was carried to the chip.
+    pub fn follow(&mut self, command: Command)
+        ensures { λ _. ⌜ now (self .exit) .reading ≡ followed command (now (self .entry) .reading) ⌝ }
+    {
+        let face = self.reading.face;
+        let arming = self.reading.arming;
+        let order = effect::order_of(face.part, command);
+        if effect::accepts(order, arming, face) {
+            self.reading.face = effect::face_after(order, face);
+            self.reading.arming = effect::arming_after(order, arming);
+        }
+    }
+
+    // SR1 was read, with BUSY so.
+    pub fn show_busy(&mut self, busy: bool)
+        ensures { λ _. ⌜ now (self .exit) .reading ≡ busy-shown busy (now (self .entry) .reading) ⌝ }
+    {
+        self.reading.busy = busy;
     }
 
     // /WP is set.

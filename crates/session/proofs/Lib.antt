@@ -1,3 +1,5 @@
 mod Looks
 mod Pictured
+mod Reaches
+mod Sends
 mod Spends

@@ -5,7 +5,8 @@ use mathlib.Core.Bool.{Bool, true, false, cond}
 use native.Mathlib.Omega.{arith}
 use native.Mathlib.Nat.{mod-eq-of-lt, le-refl}
 use borrow.Author.Tests.{eqb-true, eqb-false, eq-eqb}
-use lib.Dec.{eqb}
+use lib.Dec.{eqb, ltb}
+use Rattle.std.proofs.shelf.Tests.{ne-eqb}
 use lib.Bits.{bitAnd, and-step, and-le-r}
 use Rattle.std.proofs.shelf.Bits.{mod-pow-add, pow-below, pow-pos, mod-below, mul-le}
 use Rattle.units.specs.Units.{has}
@@ -15,7 +16,7 @@ use Rattle.chip.specs.declared.model.Part.{Part}
 use Rattle.chip.specs.declared.model.Part.the-variants.{Jw, Xa, Other}
 use Rattle.chip.specs.declared.model.State.{State}
 use Rattle.chip.specs.declared.model.Question.the-variants.{Status1, Lock}
-use Rattle.session.specs.Asked.{spent, idle-status}
+use Rattle.session.specs.Asked.{spent, idle-status, carried-reads}
 
 -- The same state but for busy and carry.
 abbrev pub counting : ℕ → ℕ → State → State
@@ -78,6 +79,19 @@ wait-goes s x t i v h e a b q n =
     let d = hidden-by (eqb (s .busy - i) 0) (s .busy - i) (wel (s .arming)) (s .face .working .sr1) v refl (even-status s h) (q .1 .0 ∙ ap (asked Status1) e) n in
     let k : x .carry ≡ s .carry - i = ap (λ y. y .carry) e in
     (q .1 .1 ∙ ap (λ y. polled Status1 (charged y)) e ∙ spent-read i s, (omega (arith, q .0), omega arith))
+
+-- What is noted of BUSY: 0 where the wait ends, and 1 after a read that showed it.
+busy-by : (s : State) (was : Bool) (b : Bool) → ltb (s .busy) 100 ≡ b → 0 < s .carry →
+    false ≡ cond (eqb (min (s .carry) (cond b (s .busy + 1) 100)) 0) was false
+busy-by s was true e h =
+    sym (ap (λ t. cond t was false) (ne-eqb (min (s .carry) (s .busy + 1)) 0 (λ z. let n : ⊥ = omega arith in n)))
+busy-by s was false e h = sym (ap (λ t. cond t was false) (ne-eqb (min (s .carry) 100) 0 (λ z. let n : ⊥ = omega arith in n)))
+
+pub busy-last : (s : State) (was : Bool) → s .busy < 100 → s .busy < s .carry → false ≡ cond (eqb (carried-reads s) 0) was false
+busy-last s was h k = busy-by s was (ltb (s .busy) 100) refl (omega arith)
+
+pub busy-more : (n : ℕ) (was : Bool) → true ≡ cond (eqb (n + 1) 0) was true
+busy-more n was = sym (ap (λ t. cond t was true) (ne-eqb (n + 1) 0 (λ z. let n : ⊥ = omega arith in n)))
 
 -- A chip that is not busy answers its lock bits.
 lock-answer : (s x : State) (i v : ℕ) → s .busy ≡ 0 → x ≡ spent i s → v ≡ asked (Lock i) x → v ≡ has (s .face .locks) i

@@ -1,8 +1,8 @@
 -- What a run of questions finds, and what it costs: each that the cable carries, one of its exchanges.
-use Prim.Native.Nat.{ℕ, _+_, _-_, _*_, _≤_, _<_}
+use Prim.Native.Nat.{ℕ, _+_, _-_, _*_, _≤_, _<_, min}
 use mathlib.Core.Path.{_≡_}
-use mathlib.Core.Bool.{cond}
-use lib.Dec.{ltb}
+use mathlib.Core.Bool.{Bool, cond}
+use lib.Dec.{eqb, ltb}
 use Rattle.chip.specs.Step.{wel, asked, polled, charged}
 use Rattle.chip.specs.declared.model.Question.{Question}
 use Rattle.chip.specs.declared.model.State.{State}
@@ -10,7 +10,7 @@ use Rattle.refusals.specs.declared.CableFault.{CableFault}
 use Rattle.refusals.specs.declared.CableFault.the-variants.{Down, Busy}
 use Rattle.std.specs.declared.result.Result.{Result}
 use Rattle.std.specs.declared.result.Result.the-variants.{Ok, Err}
-use Rattle.std.specs.Results.{Cases}
+use Rattle.std.specs.Results.{Cases, isErr}
 
 -- The state once n questions are carried, SR1 alone being asked while BUSY shows.
 abbrev pub spent : ℕ → State → State
@@ -43,3 +43,11 @@ Waits s r t =
 -- One question, as the chip's step answers it.
 abbrev pub Asks : Question → State → Result ℕ CableFault → State → Type 0
 Asks q s r t = Cases r (λ v. (0 < s .carry) × ((v ≡ asked q s) × (t ≡ polled q (charged s)))) (λ f. (s .carry ≡ 0) × ((f ≡ Down) × (t ≡ s)))
+
+-- The reads of SR1 that are carried.
+abbrev pub carried-reads : State → ℕ
+carried-reads s = min (s .carry) (reads s)
+
+-- BUSY as SR1 was last read: as it was where it was not, and 1 unless the wait ended well.
+abbrev pub last-busy : {X : Type 0} → State → Result X CableFault → Bool → Bool
+last-busy s r was = cond (eqb (carried-reads s) 0) was (isErr r)

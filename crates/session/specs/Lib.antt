@@ -1,5 +1,9 @@
 pub mod Asked
 pub mod Calls
 pub mod Look
+pub mod Reach
 pub mod Seen
+pub mod Send
+pub mod Trace
 pub mod View
+pub mod World

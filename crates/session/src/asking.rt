@@ -8,7 +8,7 @@ ghost use Rattle.chip.specs.Step.{Owes, asked, Sound};
 ghost use Rattle.chip.specs.declared.model.Exchange.the-variants.{Ask};
 ghost use Rattle.chip.specs.declared.model.Question.the-variants.{Status1};
 ghost use Rattle.chip.specs.declared.model.Part.the-variants.{Jw};
-ghost use Rattle.session.specs.Asked.{Asks, Finds, Waits};
+ghost use Rattle.session.specs.Asked.{Asks, Finds, Waits, last-busy};
 ghost use Prim.Native.Nat.{_<_};
 ghost use mathlib.Core.Path.{_≡_};
 
@@ -28,15 +28,18 @@ pub(crate) fn ask<C: Chip>(chip: &mut C, question: Question) -> Result<u32, Cabl
     }
 }
 
-// Reads SR1 until it shows BUSY 0, and answers it.
-pub(crate) fn wait<C: Chip>(chip: &mut C) -> Result<u32, CableFault>
-    ensures { λ r. ⌜ Waits (C·Chip .state (now (chip .entry))) r (C·Chip .state (now (chip .exit))) ⌝ }
+// Reads SR1 until it shows BUSY 0, and answers it; BUSY as it was last read is noted.
+pub(crate) fn wait<C: Chip>(chip: &mut C, busy: &mut bool) -> Result<u32, CableFault>
+    ensures waits { λ r. ⌜ Waits (C·Chip .state (now (chip .entry))) r (C·Chip .state (now (chip .exit))) ⌝ }
+    ensures busy { λ r. ⌜ now (busy .exit) ≡ last-busy (C·Chip .state (now (chip .entry))) r (now (busy .entry)) ⌝ }
 {
     for reads in 0..READS {
         let sr1 = ask(chip, Question::Status1)?;
         if sr1 % 2 == 0 {
+            *busy = false;
             return Ok(sr1);
         }
+        *busy = true;
     }
     Err(CableFault::Busy)
 }

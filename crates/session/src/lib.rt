@@ -2,6 +2,7 @@
 mod asking;
 mod look;
 mod rest;
+mod send;
 mod session;
 
 pub use session::Session;

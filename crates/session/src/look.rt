@@ -81,7 +81,8 @@ pub(crate) fn read<C: Chip>(chip: &mut C) -> Result<Picture, RunFault>
     ensures answer { λ r. ⌜ Cases r (λ p. looking (C·Chip .state (now (chip .entry))) ≡ Ok (p .reading)) (λ f. looking (C·Chip .state (now (chip .entry))) ≡ Err f) ⌝ }
     ensures after { λ _. ⌜ C·Chip .state (now (chip .exit)) ≡ looked (C·Chip .state (now (chip .entry))) ⌝ }
 {
-    let sr1 = unsent(wait(chip))?;
+    let mut busy = false;
+    let sr1 = unsent(wait(chip, &mut busy))?;
     let number = unsent(ask(chip, Question::PartNumber))?;
     match effect::part_of(number) {
         Part::Jw => {

@@ -1,10 +1,20 @@
 // A session: a chip, what is known of it, and the calls on it.
 use crate::look;
+use crate::send::send;
+use chip::effect;
 use chip::interface::Chip;
+use chip::model::Command;
 use picture::array::ArrayCommand;
 use picture::picture::Picture;
+use plan::wish::Term;
+use plan::wish::Wish;
 use refusals::RunFault;
+use refusals::RunFromSent;
+use units::Range;
+use units::RangeFault;
 ghost use Rattle.session.specs.Calls.{look-answer, after-look, KeyTurned, PowerCycled, judge-answer, Verdict, protected-shown};
+ghost use Rattle.session.specs.Reach.{ranged, Reached};
+ghost use Rattle.units.specs.Ranges.{wished};
 ghost use Rattle.session.specs.View.{view, reading-in};
 ghost use Rattle.std.specs.declared.option.Option.the-variants.{None};
 ghost use mathlib.Core.Path.{_≡_};
@@ -87,6 +97,31 @@ impl<C: Chip> Session<C> {
         }
     }
 
+    // Has just the units of the ranges protected, for now or for good; answers how many commands that took. The plan
+    // stands in the first of the places.
+    pub fn reach(
+        &mut self,
+        ranges: &[Range],
+        term: Term,
+        slots: &mut [Command],
+    ) -> Result<usize, RunFault>
+        ensures { λ r. ⌜ Reached (now (ranges .entry)) term (view (C·Chip .state) (now (self .entry))) (now (slots .entry)) r (view (C·Chip .state) (now (self .exit))) (now (slots .exit)) ⌝ }
+    {
+        let set = wish_in(ranges)?;
+        let Some(seen) = self.picture else {
+            return Err(RunFault::Blind);
+        };
+        if effect::is_suspended(seen.reading().face) {
+            return Err(RunFault::Suspended);
+        }
+        let count = laws::plan_for(&seen, Wish { set, term }, slots)?;
+        let mut picture = seen;
+        let sent = send(&mut self.chip, &mut picture, &slots[0..count]);
+        self.picture = Some(picture);
+        sent?;
+        Ok(count)
+    }
+
     // The picture, without asking the chip.
     pub fn picture(&self) -> Option<Picture>
         ensures { λ r. ⌜ r ≡ now (self .entry) .picture ⌝ }
@@ -110,5 +145,16 @@ impl<C: Chip> Session<C> {
         ensures { λ r. ⌜ r ≡ now (self .entry) .number ⌝ }
     {
         self.number
+    }
+}
+
+// The set that ranges wish for.
+fn wish_in(ranges: &[Range]) -> Result<u64, RunFault>
+    ensures { λ r. ⌜ r ≡ ranged (wished (now (ranges .entry))) ⌝ }
+{
+    match units::units_of(ranges) {
+        Ok(set) => Ok(set),
+        Err(RangeFault::Beyond { at }) => Err(RunFault::Beyond { at }),
+        Err(RangeFault::Cut { at }) => Err(RunFault::Cut { at }),
     }
 }

@@ -5,7 +5,7 @@ use mathlib.Core.List.{List, [], _∷_, _++_}
 use mathlib.Core.Bool.{Bool, true, false, cond}
 use native.Mathlib.Omega.{arith}
 use lib.ListN.{length, take}
-use Rattle.output.specs.Laid.{laid}
+use Rattle.places.specs.Laid.{laid}
 use Rattle.output.specs.Pour.{Paper, Poured, poured}
 use Rattle.output.proofs.Pour.{poured-front}
 use Rattle.refusals.specs.declared.SheetFault.{SheetFault}

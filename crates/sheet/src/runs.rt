@@ -4,7 +4,7 @@ use crate::bench::Bench;
 use output::NoRoom;
 use refusals::SheetFault;
 use text::lines::split_line;
-ghost use Rattle.output.specs.Laid.{laid};
+ghost use Rattle.places.specs.Laid.{laid};
 ghost use Rattle.sheet.specs.Sheet.{sheet, finish};
 ghost use Prim.Native.Nat.{_*_, _≤_};
 ghost use Rattle.std.specs.Results.{Cases, isOk};

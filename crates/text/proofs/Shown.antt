@@ -4,7 +4,7 @@ use Rattle.refusals.specs.declared.SheetFault.{SheetFault}
 use Rattle.refusals.specs.declared.SheetFault.the-variants.{Bytes, Count, Field}
 use Rattle.std.specs.declared.result.Result.{Result}
 use Rattle.std.specs.declared.result.Result.the-variants.{Ok, Err}
-use Rattle.text.specs.Fields.{FieldText, parts, pair-of}
+use Rattle.text.specs.Fields.{FieldText, parts}
 use Rattle.text.specs.Lines.{lines, admitted}
 use Rattle.text.specs.Numbers.{read, hex-of, decimal-of}
 use lib.Chars.{codes}
@@ -26,19 +26,6 @@ empty-line = refl
 two-lines : lines (codes "ab\nc") ≡ codes "ab" ∷ codes "c" ∷ []
 unfolding lines
 two-lines = refl
-
--- Two fields, of which the second is empty.
-last-empty : pair-of (codes "a\t") ≡ Ok (record { text = codes "a"; at = 0 }, record { text = []; at = 2 })
-unfolding parts
-last-empty = refl
-
-too-few : pair-of (codes "ab") ≡ Err (Count 2)
-unfolding parts
-too-few = refl
-
-too-many : pair-of (codes "a\tb\tc") ≡ Err (Count 5)
-unfolding parts
-too-many = refl
 
 not-let-in : admitted (codes "ab\rc") ≡ Err (Bytes 2)
 not-let-in = refl

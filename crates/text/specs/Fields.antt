@@ -81,11 +81,3 @@ after (Err e) k = Err e
 -- Read the next field, and go on with it and with what is unread then.
 abbrev pub took : {X : Type 0} → Unread → (FieldText → Unread → Result X SheetFault) → Result X SheetFault
 took u k = after (next-of u .0) (λ f. k f (next-of u .1))
-
--- The two fields of a line that has just two.
-abbrev pub pair-of : List ℕ → Result (FieldText × FieldText) SheetFault
-pair-of line = took (unread line) (λ a u. took u (λ b v. after (ended v) (λ _. Ok (a, b))))
-
--- An answer that has two fields, by their bytes and places.
-abbrev pub told-pair : Result (Field × Field) SheetFault → Result (FieldText × FieldText) SheetFault
-told-pair r = mapped (λ p. (plain (p .0), plain (p .1))) (λ e. e) r

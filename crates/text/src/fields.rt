@@ -1,6 +1,6 @@
 // The fields of a line.
 ghost use Rattle.std.specs.shelf.Text.{sameBytes};
-ghost use Rattle.text.specs.Fields.{parts, plain, «fields-from», left, unread, told, «next-of», ended, «pair-of», «told-pair»};
+ghost use Rattle.text.specs.Fields.{parts, plain, «fields-from», left, unread, told, «next-of», ended};
 ghost use lib.ListN.{drop};
 ghost use mathlib.Core.List.{_∷_};
 ghost use mathlib.Core.Path.{_≡_};
@@ -72,17 +72,6 @@ fn cut(line: &[u8], at: usize) -> (Field, Option<usize>)
     } else {
         (field, None)
     }
-}
-
-// The two fields of a line that has just two.
-pub fn pair(line: &[u8]) -> Result<(Field, Field), SheetFault>
-    ensures { λ r. ⌜ told-pair r ≡ pair-of (now (line .entry)) ⌝ }
-{
-    let mut fields = Fields::of(line);
-    let first = fields.next()?;
-    let second = fields.next()?;
-    fields.end()?;
-    Ok((first, second))
 }
 
 // Whether a text is this word.

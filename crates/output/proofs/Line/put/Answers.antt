@@ -1,7 +1,7 @@
 use mathlib.Core.Path.{refl}
 use mathlib.Core.List.{[], _∷_}
 use borrow.Author.Needs.{needs}
-use Rattle.output.proofs.Lay.{laid-set}
+use Rattle.places.proofs.Lay.{laid-set}
 use Rattle.output.proofs.Chain.{cut-past}
 use Rattle.output.proofs.Line.put.Needs as need
 

@@ -1,8 +1,8 @@
 use Prim.Native.Nat.{ℕ, zero, suc}
 use mathlib.Core.List.{List, [], _∷_}
 
--- The bytes once `text` is written over them from the place `at` on, as far as they reach.
-unfoldable pub laid : List ℕ → ℕ → List ℕ → List ℕ
+-- A list once another is written over it from the place `at` on, as far as it reaches.
+unfoldable pub laid : {A : Type 0} → List A → ℕ → List A → List A
 laid [] at text = []
 laid (x ∷ xs) zero [] = x ∷ xs
 laid (x ∷ xs) zero (b ∷ text) = b ∷ laid xs zero text

@@ -1,0 +1,10 @@
+pub mod Bytes
+pub mod Codes
+pub mod Exact
+pub mod Frozen
+pub mod Locks
+pub mod Refuse
+pub mod Sent
+pub mod Settings
+pub mod Sweeps
+pub mod Whole

@@ -1,0 +1,3 @@
+// Wishes tried on the simulated parts.
+#[cfg(test)]
+mod tests;
