@@ -15,6 +15,7 @@ use units::RangeFault;
 ghost use Rattle.session.specs.Calls.{look-answer, after-look, KeyTurned, PowerCycled, judge-answer, Verdict, protected-shown};
 ghost use Rattle.session.specs.Reach.{ranged, Reached};
 ghost use Rattle.units.specs.Ranges.{wished};
+ghost use Rattle.session.specs.Trace.{ReachLaw};
 ghost use Rattle.session.specs.View.{view, reading-in};
 ghost use Rattle.std.specs.declared.option.Option.the-variants.{None};
 ghost use mathlib.Core.Path.{_≡_};
@@ -100,6 +101,19 @@ impl<C: Chip> Session<C> {
     // Has just the units of the ranges protected, for now or for good; answers how many commands that took. The plan
     // stands in the first of the places.
     pub fn reach(
+        &mut self,
+        ranges: &[Range],
+        term: Term,
+        slots: &mut [Command],
+    ) -> Result<usize, RunFault>
+        ensures reached { λ r. ⌜ Reached (now (ranges .entry)) term (view (C·Chip .state) (now (self .entry))) (now (slots .entry)) r (view (C·Chip .state) (now (self .exit))) (now (slots .exit)) ⌝ }
+        ensures law { λ _. ⌜ ReachLaw (now (ranges .entry)) term (view (C·Chip .state) (now (self .entry))) ⌝ }
+    {
+        self.run_wish(ranges, term, slots)
+    }
+
+    // Checks, plans and sends a wish for the units of the ranges.
+    fn run_wish(
         &mut self,
         ranges: &[Range],
         term: Term,
