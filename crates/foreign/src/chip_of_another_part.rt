@@ -8,6 +8,7 @@ ghost use Rattle.foreign.specs.Foreign.{foreign-state, Strange, Kept};
 ghost use Rattle.std.specs.Options.{Cases as BySome};
 ghost use Prim.Native.Nat.{_≤_};
 ghost use lib.Bits.{bitAnd};
+ghost use mathlib.Core.Bool.{true, false};
 ghost use mathlib.Core.Path.{_≡_};
 
 #[derive(Clone, Copy)]
@@ -20,7 +21,7 @@ pub struct ForeignChip {
 impl ForeignChip {
     // A chip with this part number, SR1, busy and carry; refused where the number is a known one, and out of bounds.
     pub fn new(number: u32, sr1: u8, busy: u16, carry: u32) -> Option<ForeignChip>
-        ensures { λ r. ⌜ BySome r (Strange number × ((bitAnd sr1 252 ≡ sr1) × ((busy ≤ 1000) × (carry ≤ 1000000))) → ⊥) (λ x. (x .memory .number ≡ number) × ((x .memory .sr1 ≡ sr1) × ((x .memory .busy ≡ busy) × (x .memory .carry ≡ carry)))) ⌝ }
+        ensures { λ r. ⌜ BySome r (Strange number × ((bitAnd sr1 252 ≡ sr1) × ((busy ≤ 1000) × (carry ≤ 1000000))) → ⊥) (λ x. x .memory ≡ record { number = number; sr1 = sr1; wp = true; armed = false; busy = busy; carry = carry }) ⌝ }
     {
         if number >= 0x100_0000 || number == 0xEF8015 || number == 0xEF3015 {
             return None;
