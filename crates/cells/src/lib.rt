@@ -1,4 +1,7 @@
 // Worked examples of the definitions.
+
+#![tactic(auto)]
+
 ghost use Rattle.cells.specs.Cells.{Cells};
 ghost use Rattle.std.specs.Prelude.{◌≡◌};
 

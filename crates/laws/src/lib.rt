@@ -1,4 +1,7 @@
 // The planner, with what its plans are good for.
+
+#![tactic(auto)]
+
 ghost use Rattle.laws.specs.Laws.{Lawful};
 ghost use Rattle.laws.specs.Whole.{HeldWhole, MetWhole};
 ghost use Rattle.plan.specs.Plan.{planned};

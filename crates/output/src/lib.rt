@@ -2,6 +2,8 @@
 //!
 //! The caller lends the bytes and their length so far. A line is written through a guard: one that does not fit is taken back whole, and the lines before it stand.
 
+#![tactic(auto)]
+
 ghost use Rattle.std.specs.Prelude.{◌≡◌, ◌/◌, ◌%◌, ◌^◌, ◌<◌, [], ◌∷◌, ◌++◌, decimal as decimal-text};
 ghost use Rattle.output.specs.Hex.{hex as hex-text, sign};
 ghost use Rattle.output.specs.Pour.{Said};

@@ -1,4 +1,7 @@
 // The two parts as simulated chips.
+
+#![tactic(auto)]
+
 pub mod jw;
 pub mod jw_memory;
 pub mod xa;

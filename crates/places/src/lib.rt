@@ -1,4 +1,7 @@
 // A list of bounded length, in places that a caller lends.
+
+#![tactic(auto)]
+
 ghost use Rattle.std.specs.Prelude.{◌≡◌, ◌≤◌, [], ◌∷◌, length, take, MatchResult};
 ghost use Rattle.places.specs.Pushed.{Added};
 ghost use Rattle.refusals.specs.declared.RunFault.TheVariants.{Full};

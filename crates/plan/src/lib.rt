@@ -1,4 +1,7 @@
 // Wishes, and the commands that meet them.
+
+#![tactic(auto)]
+
 mod choose;
 mod commands;
 mod planner;

@@ -2,6 +2,9 @@
 //
 // A fault is told by the layer that met it, and a higher layer carries it whole: the cable's fault goes into the run's
 // with the count of commands carried before it, and the run's into the sheet's with the place in the line.
+
+#![tactic(auto)]
+
 ghost use Rattle.refusals.specs.Numbers.{«cable_number», «run_number», «sheet_number», «sheet_place»};
 ghost use Rattle.refusals.specs.declared.RunFault.TheVariants.{Cable};
 ghost use Rattle.refusals.specs.declared.SheetFault.TheVariants.{Run};

@@ -1,12 +1,8 @@
 mod Arms
-mod InStep
-mod Law
 mod Lawfully
 mod Looks
 mod Pictured
-mod Protect
-mod Sent
+mod Reaches
 mod Sends
 mod Spends
-mod Taken
 mod Traced

@@ -1,9 +1,7 @@
 pub mod Asked
 pub mod Calls
-pub mod Law
 pub mod Look
-pub mod Wish
-pub mod Duties
+pub mod Reach
 pub mod Seen
 pub mod Send
 pub mod Trace

@@ -17,7 +17,7 @@ use Rattle.plan.specs.declared.wish.Term.{Term}
 use Rattle.refusals.specs.declared.CableFault.{CableFault}
 use Rattle.refusals.specs.declared.Sent.{Sent}
 use Rattle.session.specs.Asked.{carried_reads}
-use Rattle.session.specs.Wish.{ranged}
+use Rattle.session.specs.Reach.{ranged}
 use Rattle.session.specs.View.{View}
 use Rattle.units.specs.Ranges.{wished}
 use Rattle.units.specs.declared.ranges.Range.{Range}

@@ -1,5 +1,2 @@
-mod Counts
-mod Reached
-mod Saying
-mod Suffice
+mod Lengths
 mod Turns

@@ -2,6 +2,9 @@
 //
 // Nothing here knows what a line means. Each reader answers for every input, and tells a refusal with its place in
 // the line.
+
+#![tactic(auto)]
+
 pub mod fields;
 pub mod lines;
 pub mod numbers;

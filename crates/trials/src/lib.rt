@@ -1,10 +1,6 @@
-// Wishes tried on the simulated parts, and a small piece of service work that rests on the law of sessions.
-#[cfg(test)]
-mod duties;
-#[cfg(test)]
-mod refusing;
+// Wishes tried on the simulated parts.
+
+#![tactic(auto)]
+
 #[cfg(test)]
 mod tests;
-mod work;
-
-pub use work::open_for_work;

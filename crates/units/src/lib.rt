@@ -3,6 +3,8 @@
 //! Units 0 to 15 are the 4 KB sectors of block 0, units 16 to 45 the 64 KB blocks 1 to 30, units 46 to 61 the 4 KB
 //! sectors of block 31. A set of units is a number of 62 bits, unit `u` at bit `u`.
 
+#![tactic(auto)]
+
 mod address;
 mod codes;
 mod ranges;

@@ -1,4 +1,7 @@
 // What the fields of a reach record say: how long the wish is to hold, and its ranges.
+
+#![tactic(auto)]
+
 ghost use Rattle.places.specs.Laid.{laid};
 ghost use Rattle.text.specs.Fields.{plain, left, after as good};
 ghost use Rattle.wishes.specs.Wishes.{term_in, range_in, ranges_in, readable, ranges_told, ranges_laid};

@@ -1,54 +1,17 @@
-use Rattle.std.proofs.Common.{◌≤◌, [], ◌∷◌, ◌++◌, length, take, codes, refl, arith, rules}
-use Rattle.sheet.specs.Answers.{seen_text, no_text, answer_texts}
-use Rattle.sheet.proofs.Saying.{seen_short, no_short, says_one, says_done}
+use Rattle.std.proofs.Common.{◌≤◌, length, sym, ap, subst, arith, rules}
+use Rattle.refusals.specs.Numbers.{sheet_number, sheet_place}
+use Rattle.sheet.specs.Answers.{answer_text}
+use Rattle.sheet.proofs.Lengths.{seen_short, no_short}
 use Rattle.sheet.proofs.answers.say.Goals as goal
-
-pub returns-in-Ok-Fine : goal.returns-in-Ok-Fine
-returns-in-Ok-Fine c =
-    let s =
-    says_one (answer_texts c.args.answer c.args.commands.now) (codes "ok" ++ (10 ∷ [])) c.say-line.result c.args.bytes.now c.args.len.now
-    c.say-line.new.bytes c.say-line.new.len (search rules) (omega arith) c.requires.0 c.say-line.ensures
-    in
-    record { text = s.text; short = s.short }
 
 pub returns-in-Ok-Seen : goal.returns-in-Ok-Seen
 returns-in-Ok-Seen c =
-    let s =
-    says_one (answer_texts c.args.answer c.args.commands.now) (seen_text c.in-Ok-Seen.«set») c.say-seen.result c.args.bytes.now c.args.len.now
-    c.say-seen.new.bytes c.say-seen.new.len (search rules) (seen_short c.in-Ok-Seen.«set») c.requires.0 c.say-seen.ensures
-    in
-    record { text = s.text; short = s.short }
-
-pub returns-in-Ok-Obeyed : goal.returns-in-Ok-Obeyed
-returns-in-Ok-Obeyed c =
-    let s =
-    says_one (answer_texts c.args.answer c.args.commands.now) (codes "obeyed" ++ (10 ∷ [])) c.say-line-in-Ok-Obeyed.result c.args.bytes.now c.args.len.now
-    c.say-line-in-Ok-Obeyed.new.bytes c.say-line-in-Ok-Obeyed.new.len (search rules) (omega arith) c.requires.0 c.say-line-in-Ok-Obeyed.ensures
-    in
-    record { text = s.text; short = s.short }
-
-pub returns-in-Ok-Ignored : goal.returns-in-Ok-Ignored
-returns-in-Ok-Ignored c =
-    let s =
-    says_one (answer_texts c.args.answer c.args.commands.now) (codes "ignored" ++ (10 ∷ [])) c.say-line-in-Ok-Ignored.result c.args.bytes.now c.args.len.now
-    c.say-line-in-Ok-Ignored.new.bytes c.say-line-in-Ok-Ignored.new.len (search rules) (omega arith) c.requires.0 c.say-line-in-Ok-Ignored.ensures
-    in
-    record { text = s.text; short = s.short }
-
-pub returns-in-Ok-Done : goal.returns-in-Ok-Done
-returns-in-Ok-Done c =
-    let few : (c.in-Ok-Done.count ≤ length c.args.commands.now) × (c.in-Ok-Done.count ≤ 126) = search rules in
-    let s =
-    says_done (answer_texts c.args.answer c.args.commands.now) c.args.commands.now c.in-Ok-Done.count
-    (take c.in-Ok-Done.count c.args.commands.now) c.say-done.result c.args.bytes.now c.args.len.now c.say-done.new.bytes
-    c.say-done.new.len (search rules) few.0 few.1 refl c.say-done.ensures
-    in
-    record { text = s.text; short = s.short }
+    record { text = search rules; short = let s = seen_short c.in-Ok-Seen.set in search rules }
 
 pub returns-in-Err : goal.returns-in-Err
 returns-in-Err c =
-    let s =
-    says_one (answer_texts c.args.answer c.args.commands.now) (no_text c.number.result c.place.result) c.say-no.result c.args.bytes.now c.args.len.now
-    c.say-no.new.bytes c.say-no.new.len (search rules) (no_short c.number.result c.place.result c.number.type-inv c.place.type-inv) c.requires.0 c.say-no.ensures
-    in
-    record { text = s.text; short = s.short }
+    record {
+      text = search rules;
+      short =
+          let s = no_short c.number.result c.place.result c.number.type-inv c.place.type-inv in search rules;
+    }

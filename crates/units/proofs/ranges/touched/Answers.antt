@@ -6,18 +6,18 @@ use Rattle.units.proofs.Faults.{some_told}
 use Rattle.units.proofs.Touch.{shifted, shifted-order, touching_right}
 use Rattle.units.proofs.ranges.touched.Goals as goal
 
-pub overflow-sub-result : goal.overflow-sub-result
-overflow-sub-result c =
+pub overflow_sub-result : goal.overflow_sub-result
+overflow_sub-result c =
     let r = c.args.range in
-    let low = some_told _ _ _ c.in-ok-low.ensures.value in
-    let high = some_told _ _ _ c.in-ok-high.ensures.value in
+    let low = some_told _ _ _ c.in_ok-low.ensures.value in
+    let high = some_told _ _ _ c.in_ok-high.ensures.value in
     shifted-order r _ _ low.1 high.1 (and_from _ _ (le-leb r.first r.last (omega arith)) high.0)
 
 pub returns : goal.returns
 returns c =
     let r = c.args.range in
-    let low = some_told _ _ _ c.in-ok-low.ensures.value in
-    let high = some_told _ _ _ c.in-ok-high.ensures.value in
+    let low = some_told _ _ _ c.in_ok-low.ensures.value in
+    let high = some_told _ _ _ c.in_ok-high.ensures.value in
     let i = and_from _ _ (le-leb r.first r.last (omega arith)) high.0 in
     let e = shifted r _ _ low.1 high.1 i in
     record { value = ap Some e ∙ sym (cond-true (inside r) _ _ i); units = subst (Touched r) (sym e) (touching_right r i) }

@@ -7,10 +7,10 @@ use Rattle.units.specs.declared.ranges.RangeFault.TheVariants.{Beyond}
 use Rattle.units.proofs.Faults.{blank, fails, none-fails, none_told, passes, some_told}
 use Rattle.units.proofs.ranges.touched_by_all.Goals as goal
 
-pub returns-in-default : goal.returns-in-default
-returns-in-default c =
+pub returns-in_default : goal.returns-in_default
+returns-in_default c =
     let rs = c.args.ranges.now in
-    let t = none_told _ _ c.in-default.ensures.value in
+    let t = none_told _ _ c.in_default.ensures.value in
     let f = fails inside rs c.loop-at.at c.loop-at.invariant.0 c.loop-at-test.true t in
     sym (ap (λ (o : Option ℕ). unless o Beyond (Ok (union rs))) f)
 

@@ -7,6 +7,6 @@ use Rattle.units.proofs.ranges.units_of.Goals as goal
 pub returns-in-None : goal.returns-in-None
 returns-in-None c =
     let rs = c.args.ranges.now in
-    let t = ok_told _ _ _ _ c.in-ok-set.ensures in
+    let t = ok_told _ _ _ _ c.in_ok-set.ensures in
     let n = c.in-None.ensures in
     record { value = search rules; units = subst (United rs) (sym t.1) (union_right rs t.0 (sym n)) }
