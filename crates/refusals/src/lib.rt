@@ -5,7 +5,7 @@
 
 #![tactic(auto)]
 
-ghost use Rattle.refusals.specs.Numbers.{«cable_number», «run_number», «sheet_number», «sheet_place»};
+ghost use Rattle.refusals.specs.Numbers.{cable_number, run_number, sheet_number, sheet_place};
 ghost use Rattle.refusals.specs.declared.RunFault.TheVariants.{Cable};
 ghost use Rattle.refusals.specs.declared.SheetFault.TheVariants.{Run};
 ghost use Rattle.std.specs.Prelude.{◌≡◌};

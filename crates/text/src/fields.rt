@@ -1,6 +1,6 @@
 // The fields of a line.
 ghost use Rattle.std.specs.Str.{bytes_eq};
-ghost use Rattle.text.specs.Fields.{parts, plain, «fields_from», left, unread, told, «next_of», ended, «at_most», «start_of»};
+ghost use Rattle.text.specs.Fields.{parts, plain, fields_from, left, unread, told, next_of, ended, at_most, start_of};
 ghost use Rattle.std.specs.Prelude.{◌≡◌, ◌∷◌, drop};
 
 use crate::scan::{skip, up_to};

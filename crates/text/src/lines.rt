@@ -1,7 +1,7 @@
 // The lines of a sheet, and which of them are let in.
 ghost use Rattle.std.specs.Prelude.{◌≡◌, ◌<◌, ◌≤◌, ◌∷◌, length, OnOk};
 ghost use Rattle.std.specs.List.{prefix_len};
-ghost use Rattle.text.specs.Lines.{lines, «first_line», «after_line», fine, admitted};
+ghost use Rattle.text.specs.Lines.{lines, first_line, after_line, fine, admitted};
 
 use crate::scan::{skip, up_to};
 use refusals::SheetFault;

@@ -1,7 +1,7 @@
 // Numbers in hexadecimal and in decimal.
 ghost use Rattle.std.specs.Prelude.{◌≡◌, ℕ, ◌^◌, ◌<◌, ◌≤◌, length, IfSome, IfOk};
 ghost use Rattle.text.specs.Fields.{plain};
-ghost use Rattle.text.specs.Numbers.{nibble, digit, read, «hex_of», «decimal_of»};
+ghost use Rattle.text.specs.Numbers.{nibble, digit, read, hex_of, decimal_of};
 
 use crate::fields::Field;
 use refusals::SheetFault;

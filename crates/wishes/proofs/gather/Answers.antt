@@ -12,17 +12,17 @@ loop-field-preserved c =
     let v = left c.next.new.self in
     let f = plain c.in-Ok.field in
     let one = reads u (Ok f) v c.in-Ok.ensures in
-    let more = readable_more f u.fields v.fields c.in-Ok-range-in.range one.0 c.in-Ok-range-in.ensures in
-    let k = laid_on c.in-Ok-range-in.range (readable u.fields) (readable v.fields) more c.in-default-push.ensures.answer in
+    let more = readable_more f u.fields v.fields c.in-Ok-range_in.range one.0 c.in-Ok-range_in.ensures in
+    let k = laid_on c.in-Ok-range_in.range (readable u.fields) (readable v.fields) more c.in_default-push.ensures.answer in
     (k.lies ∙ c.loop-field.invariant.0, (omega (arith, k.long, c.loop-field.invariant.1.0), (k.size ∙ c.loop-field.invariant.1.1.0, search rules)))
 
-pub returns-in-default-range-in : goal.returns-in-default-range-in
-returns-in-default-range-in c =
+pub returns-in_default-range_in : goal.returns-in_default-range_in
+returns-in_default-range_in c =
     let u = left c.loop-field.rest in
     let f = plain c.in-Ok.field in
     let v = left c.next.new.self in
     let one = reads u (Ok f) v c.in-Ok.ensures in
-    let stop = readable_stop f u.fields v.fields c.in-default-range-in.field-0 one.0 c.in-default-range-in.ensures in
+    let stop = readable_stop f u.fields v.fields c.in_default-range_in.field-0 one.0 c.in_default-range_in.ensures in
     let k = laid_out c.loop-field.list.slots.now c.loop-field.list.len (readable u.fields) stop in
     record { after = k.lies ∙ c.loop-field.invariant.0; count = λ h. omega (arith, k.long, c.loop-field.invariant.1.0); same = c.loop-field.invariant.1.1.1 }
 
@@ -32,7 +32,7 @@ returns-in-Err c =
     let f = plain c.in-Ok.field in
     let v = left c.next.new.self in
     let one = reads u (Ok f) v c.in-Ok.ensures in
-    let more = ap length (readable_more f u.fields v.fields c.in-Ok-range-in.range one.0 c.in-Ok-range-in.ensures) in
+    let more = ap length (readable_more f u.fields v.fields c.in-Ok-range_in.range one.0 c.in-Ok-range_in.ensures) in
     let full = c.in-Err.ensures.answer.1 in
     let k = laid_full c.loop-field.list.slots.now c.loop-field.list.len (readable u.fields) full.0 in
     record {
@@ -44,6 +44,6 @@ returns-in-Err c =
 pub returns : goal.returns
 returns c =
     let u = left c.loop-field.rest in
-    let none = reads u (Err c.in-default.field-0) (left c.next.new.self) c.in-default.ensures in
+    let none = reads u (Err c.in_default.field-0) (left c.next.new.self) c.in_default.ensures in
     let k = laid_out c.loop-field.list.slots.now c.loop-field.list.len (readable u.fields) (readable_none u.fields none) in
     record { after = k.lies ∙ c.loop-field.invariant.0; count = λ h. omega (arith, k.long, c.loop-field.invariant.1.0); same = c.loop-field.invariant.1.1.1 }

@@ -9,13 +9,13 @@ pub returns-in-Err : goal.returns-in-Err
 returns-in-Err c =
     let fs = (left c.args.fields).fields in
     let many : length c.args.slots.now < length fs = search rules in
-    let t = told_short fs c.args.slots.now (sym c.in-ok-check.ensures) many in
+    let t = told_short fs c.args.slots.now (sym c.in_ok-check.ensures) many in
     record { answer = t.answer; after = t.after }
 
 pub returns : goal.returns
 returns c =
     let fs = (left c.args.fields).fields in
-    let checked = sym c.in-ok-check.ensures in
+    let checked = sym c.in_ok-check.ensures in
     let few : length fs ≤ length c.args.slots.now = search rules in
     let all = readable_count fs checked in
     let slots = c.args.slots.now in

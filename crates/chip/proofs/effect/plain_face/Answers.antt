@@ -9,12 +9,12 @@ returns c =
       value = search rules;
       plain = (
         (
-          clear1 p c.args.face.working.sr1 c.bits-of-sr1.result c.bits-of-sr1.ensures,
+          clear1 p c.args.face.working.sr1 c.bits_of_sr1.result c.bits_of_sr1.ensures,
           (
-            clear2_cut p c.args.face.working.sr2 c.bits-of-sr2.result c.bits-of-sr2.ensures,
-            clear3 p c.args.face.working.sr3 c.bits-of-sr3.result c.bits-of-sr3.ensures,
+            clear2_cut p c.args.face.working.sr2 c.bits_of_sr2.result c.bits_of_sr2.ensures,
+            clear3 p c.args.face.working.sr3 c.bits_of_sr3.result c.bits_of_sr3.ensures,
           ),
         ),
-        clear_locks p c.args.face.locks c.bits-of-locks.result c.bits-of-locks.ensures,
+        clear_locks p c.args.face.locks c.bits_of_locks.result c.bits_of_locks.ensures,
       );
     }

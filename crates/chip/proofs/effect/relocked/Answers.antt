@@ -4,14 +4,14 @@ use Rattle.chip.proofs.effect.relocked.Goals as goal
 
 pub returns-then-u-lt62 : goal.returns-then-u-lt62
 returns-then-u-lt62 c =
-    record { value = search rules; bound = λ h. or_lt 62 c.args.locks c.one-at.result h c.one-at.ensures.bound }
+    record { value = search rules; bound = λ h. or_lt 62 c.args.locks c.one_at.result h c.one_at.ensures.bound }
 
 pub returns-then-u-lt62-2 : goal.returns-then-u-lt62-2
 returns-then-u-lt62-2 c =
-    let one = c.one-at-then-u-lt62-2.result in
+    let one = c.one_at-then-u-lt62-2.result in
     record {
       value = search rules;
       bound =
           λ h. xor_lt 62 c.args.locks (bit_and c.args.locks one) h
-          (and_lt 62 c.args.locks one h c.one-at-then-u-lt62-2.ensures.bound);
+          (and_lt 62 c.args.locks one h c.one_at-then-u-lt62-2.ensures.bound);
     }

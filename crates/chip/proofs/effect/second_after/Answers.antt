@@ -6,5 +6,5 @@ pub returns : goal.returns
 returns c =
     record {
       value = search rules;
-      clear = λ h. clear2 c.args.part c.args.b c.args.old c.bits-of-sr2.result c.bits-of-sr2.ensures h;
+      clear = λ h. clear2 c.args.part c.args.b c.args.old c.bits_of_sr2.result c.bits_of_sr2.ensures h;
     }

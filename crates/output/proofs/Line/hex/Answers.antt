@@ -12,17 +12,17 @@ hex_more (suc k) n d b h e f = rw (f, e, sub-one (suc k)) refl
 pub returns-then-self : goal.returns-then-self
 returns-then-self c = cut_past (hex c.args.width c.args.n) (omega arith) (omega arith)
 
-pub returns-in-err-put : goal.returns-in-err-put
-returns-in-err-put c =
-    let more = hex_more c.loop-right.right c.args.n c.digit-at.result c.sign-of.result c.loop-right-test.true c.digit-at.ensures c.sign-of.ensures in
+pub returns-in_err-put : goal.returns-in_err-put
+returns-in_err-put c =
+    let more = hex_more c.loop-right.right c.args.n c.digit_at.result c.sign_of.result c.loop-right-test.true c.digit_at.ensures c.sign_of.ensures in
     let rest = hex (c.loop-right.right - 1) c.args.n in
-    puts_err {b = c.put.new.self} c.from-residual.result c.from-residual.ensures.0
-    (onward_cut rest c.in-err-put.ensures (onward_as more c.loop-right.invariant))
+    puts_err {b = c.put.new.self} c.from_residual.result c.from_residual.ensures.0
+    (onward_cut rest c.in_err-put.ensures (onward_as more c.loop-right.invariant))
 
 pub loop-right-preserved : goal.loop-right-preserved
 loop-right-preserved c =
-    let more = hex_more c.loop-right.right c.args.n c.digit-at.result c.sign-of.result c.loop-right-test.true c.digit-at.ensures c.sign-of.ensures in
-    onward_more c.in-ok-put.ensures (onward_as more c.loop-right.invariant)
+    let more = hex_more c.loop-right.right c.args.n c.digit_at.result c.sign_of.result c.loop-right-test.true c.digit_at.ensures c.sign_of.ensures in
+    onward_more c.in_ok-put.ensures (onward_as more c.loop-right.invariant)
 
 pub returns : goal.returns
 unfolding hex

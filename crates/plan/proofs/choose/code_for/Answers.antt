@@ -6,6 +6,6 @@ pub returns : goal.returns
 returns c =
     record {
       value =
-          found c.args.part c.codes-of.result c.args.«set» c.code-of.result c.codes-of.ensures c.code-of.ensures;
-      small = few c.codes-of.result c.args.«set» c.code-of.result c.code-of.ensures;
+          found c.args.part c.codes_of.result c.args.«set» c.code_of.result c.codes_of.ensures c.code_of.ensures;
+      small = few c.codes_of.result c.args.«set» c.code_of.result c.code_of.ensures;
     }

@@ -8,7 +8,7 @@ returns c =
       answer =
           writes_more (c.args.first ∷ []) (c.args.second ∷ []) c.push-2.result c.args.list.now.slots.now
           c.push.new.self.slots.now c.push-2.new.self.slots.now c.args.list.now.len c.push.new.self.len
-          c.push-2.new.self.len c.in-ok-push.ensures.answer
+          c.push-2.new.self.len c.in_ok-push.ensures.answer
           (writes_push c.args.second c.push-2.result _ _ _ _ c.push-2.ensures.answer);
       same = search rules;
     }

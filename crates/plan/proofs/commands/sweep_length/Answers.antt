@@ -8,20 +8,20 @@ pub loop-unit-init : goal.loop-unit-init
 unfolding sweep
 loop-unit-init c = refl
 
-pub overflow-add-count : goal.overflow-add-count
-overflow-add-count c =
+pub overflow_add-count : goal.overflow_add-count
+overflow_add-count c =
     let test = due c.args.lock c.args.locks c.args.«set» in
     let short = sweep_short test (opcode c.args.lock) c.loop-unit.unit in
     let step = step_short (test c.loop-unit.unit) (opcode c.args.lock) c.loop-unit.unit in
-    let few : c.loop-unit.count + c.if-due-length-count.result < 2 ^ 64 = omega (arith, c.loop-unit.invariant, c.if-due-length-count.ensures) in
+    let few : c.loop-unit.count + c.if_due_length-count.result < 2 ^ 64 = omega (arith, c.loop-unit.invariant, c.if_due_length-count.ensures) in
     Fits-bits 64 tt few
 
 pub loop-unit-preserved : goal.loop-unit-preserved
 loop-unit-preserved c =
     let test = due c.args.lock c.args.locks c.args.«set» in
     let grows = sweep_grows test (opcode c.args.lock) c.loop-unit.unit in
-    ap (λ n. n + c.if-due-length-count.result) c.loop-unit.invariant
-    ∙ ap (λ n. length (sweep test (opcode c.args.lock) c.loop-unit.unit) + n) c.if-due-length-count.ensures
+    ap (λ n. n + c.if_due_length-count.result) c.loop-unit.invariant
+    ∙ ap (λ n. length (sweep test (opcode c.args.lock) c.loop-unit.unit) + n) c.if_due_length-count.ensures
     ∙ sym grows
 
 pub returns : goal.returns

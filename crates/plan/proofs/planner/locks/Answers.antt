@@ -6,29 +6,29 @@ use Rattle.plan.specs.declared.wish.Term.TheVariants.{Now}
 use Rattle.plan.proofs.Writing.{writes_more, no_room_more, no_room_after}
 use Rattle.plan.proofs.planner.locks.Goals as goal
 
-pub returns-in-err-sweep : goal.returns-in-err-sweep
+pub returns-in_err-sweep : goal.returns-in_err-sweep
 unfolding lock_plan
-returns-in-err-sweep c =
+returns-in_err-sweep c =
     let f = c.args.face in
     let locking : List Command = sweep (to_lock f.locks c.args.«set») 54 62 in
     let unlocking : List Command = sweep (to_unlock f.locks c.args.«set») 57 62 in
     let raising : List Command = cond (by_lock_bits f) [] (arm Now ∷ (record { code = 17; bytes = One (third_byte f 1) } ∷ [])) in
     let few =
     no_room_more locking (unlocking ++ raising) c.args.list.now.slots.now c.args.list.now.len
-    c.in-err-sweep.ensures.answer.1
+    c.in_err-sweep.ensures.answer.1
     in
     search rules
 
-pub returns-in-err-sweep-2 : goal.returns-in-err-sweep-2
+pub returns-in_err-sweep-2 : goal.returns-in_err-sweep-2
 unfolding lock_plan
-returns-in-err-sweep-2 c =
+returns-in_err-sweep-2 c =
     let f = c.args.face in
     let locking : List Command = sweep (to_lock f.locks c.args.«set») 54 62 in
     let unlocking : List Command = sweep (to_unlock f.locks c.args.«set») 57 62 in
     let raising : List Command = cond (by_lock_bits f) [] (arm Now ∷ (record { code = 17; bytes = One (third_byte f 1) } ∷ [])) in
     let few =
     no_room_after locking unlocking raising c.args.list.now.slots.now c.sweep.new.list.slots.now c.args.list.now.len
-    c.sweep.new.list.len c.in-ok-sweep.ensures.answer c.in-err-sweep-2.ensures.answer.1
+    c.sweep.new.list.len c.in_ok-sweep.ensures.answer c.in_err-sweep-2.ensures.answer.1
     in
     search rules
 
@@ -41,11 +41,11 @@ returns c =
     let raising : List Command = cond (by_lock_bits f) [] (arm Now ∷ (record { code = 17; bytes = One (third_byte f 1) } ∷ [])) in
     record {
       answer =
-          writes_more locking (unlocking ++ raising) c.raise-wps.result c.args.list.now.slots.now c.sweep.new.list.slots.now
-          c.raise-wps.new.list.slots.now c.args.list.now.len c.sweep.new.list.len c.raise-wps.new.list.len
-          c.in-ok-sweep.ensures.answer
-          (writes_more unlocking raising c.raise-wps.result c.sweep.new.list.slots.now c.sweep-2.new.list.slots.now
-          c.raise-wps.new.list.slots.now c.sweep.new.list.len c.sweep-2.new.list.len c.raise-wps.new.list.len
-          c.in-ok-sweep-2.ensures.answer c.raise-wps.ensures.answer);
+          writes_more locking (unlocking ++ raising) c.raise_wps.result c.args.list.now.slots.now c.sweep.new.list.slots.now
+          c.raise_wps.new.list.slots.now c.args.list.now.len c.sweep.new.list.len c.raise_wps.new.list.len
+          c.in_ok-sweep.ensures.answer
+          (writes_more unlocking raising c.raise_wps.result c.sweep.new.list.slots.now c.sweep-2.new.list.slots.now
+          c.raise_wps.new.list.slots.now c.sweep.new.list.len c.sweep-2.new.list.len c.raise_wps.new.list.len
+          c.in_ok-sweep-2.ensures.answer c.raise_wps.ensures.answer);
       same = search rules;
     }

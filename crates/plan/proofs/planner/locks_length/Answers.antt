@@ -15,6 +15,6 @@ returns c =
     let raising : List Command = cond (by_lock_bits f) [] (arm Now ∷ (record { code = 17; bytes = One (third_byte f 1) } ∷ [])) in
     let a = length-append locking (unlocking ++ raising) in
     let b = length-append unlocking raising in
-    let sum : c.sweep-length.result + (c.sweep-length-2.result + c.raising-length.result) ≡ length (lock_plan f c.args.«set») =
-    omega (arith, c.sweep-length.ensures.value, c.sweep-length-2.ensures.value, c.raising-length.ensures.value) in
+    let sum : c.sweep_length.result + (c.sweep_length-2.result + c.raising_length.result) ≡ length (lock_plan f c.args.«set») =
+    omega (arith, c.sweep_length.ensures.value, c.sweep_length-2.ensures.value, c.raising_length.ensures.value) in
     record { value = sum; short = omega (arith, sum, lock_plan_short f c.args.«set») }

@@ -5,11 +5,11 @@ use Rattle.plan.specs.declared.wish.Term.TheVariants.{Now}
 use Rattle.plan.proofs.Writing.{added_done}
 use Rattle.plan.proofs.planner.raise_wps.Goals as goal
 
-pub returns-then-has-wps : goal.returns-then-has-wps
-returns-then-has-wps c =
+pub returns-then-has_wps : goal.returns-then-has_wps
+returns-then-has_wps c =
     record {
       answer =
           added_done (by_lock_bits c.args.face) (arm Now ∷ (record { code = 17; bytes = One (third_byte c.args.face 1) } ∷ []))
-          c.args.list.now.slots.now c.args.list.now.len (sym c.has-wps.ensures ∙ c.if-has-wps.true) c.args.list.now.fits;
+          c.args.list.now.slots.now c.args.list.now.len (sym c.has_wps.ensures ∙ c.if-has_wps.true) c.args.list.now.fits;
       same = search rules;
     }

@@ -13,7 +13,7 @@ returns-in-Nothing c =
     }
 
 pub returns-in-Xa : goal.returns-in-Xa
-returns-in-Xa c = let a = c.settings-xa.ensures.answer c.args.wish.term in search rules
+returns-in-Xa c = let a = c.settings_xa.ensures.answer c.args.wish.term in search rules
 
 pub returns-in-Other : goal.returns-in-Other
 returns-in-Other c =

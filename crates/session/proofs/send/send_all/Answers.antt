@@ -11,18 +11,18 @@ returns-in-Err g c =
       run = λ known.
           c.loop-i.invariant.1 known
           ∙ sent_ill c.args.commands.now c.loop-i.i (world (g.C.Chip.state c.loop-i.chip) c.loop-i.picture)
-          (world (g.C.Chip.state c.send-one.new.chip) c.send-one.new.picture) _ c.in-Err.stop c.loop-i-test.true (search rules)
+          (world (g.C.Chip.state c.send_one.new.chip) c.send_one.new.picture) _ c.in-Err.stop c.loop-i-test.true (search rules)
           (c.in-Err.ensures.run (subst Known (sym c.loop-i.invariant.0) known));
     }
 
 pub loop-i-preserved : goal.loop-i-preserved
 loop-i-preserved g c = (
-  c.send-one.ensures.part ∙ c.loop-i.invariant.0,
+  c.send_one.ensures.part ∙ c.loop-i.invariant.0,
   λ known.
       c.loop-i.invariant.1 known
       ∙ sent_well c.args.commands.now c.loop-i.i (world (g.C.Chip.state c.loop-i.chip) c.loop-i.picture)
-      (world (g.C.Chip.state c.send-one.new.chip) c.send-one.new.picture) _ c.loop-i-test.true (search rules)
-      (c.in-default.ensures.run (subst Known (sym c.loop-i.invariant.0) known)),
+      (world (g.C.Chip.state c.send_one.new.chip) c.send_one.new.picture) _ c.loop-i-test.true (search rules)
+      (c.in_default.ensures.run (subst Known (sym c.loop-i.invariant.0) known)),
 )
 
 pub returns : goal.returns

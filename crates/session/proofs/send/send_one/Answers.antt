@@ -12,7 +12,7 @@ returns-in-Ok g c =
       part = search rules;
       run = λ known.
           one_awaited c.args.command s (g.C.Chip.state c.exchange.new.self) c.args.picture.now.reading c.follow.new.self.reading
-          _ (λ z. c.in-default.not-Down (c.exchange.ensures.down z))
+          _ (λ z. c.in_default.not-Down (c.exchange.ensures.down z))
           (c.exchange.ensures.step (owes s.face.part (Send c.args.command) known)).1 c.follow.ensures due
           c.in-Ok.ensures.answer c.in-Ok.ensures.after;
       few = tt;

@@ -2,10 +2,10 @@ use Rattle.std.proofs.Common.{length, ap, rules}
 use Rattle.text.proofs.LinesMore.{lines_few, count_none}
 use Rattle.text.proofs.lines.count_lines.Goals as goal
 
-pub overflow-add-count : goal.overflow-add-count
-overflow-add-count c =
+pub overflow_add-count : goal.overflow_add-count
+overflow_add-count c =
     let few = lines_few c.args.input.now in
-    let more = ap length (c.split-line-split.ensures.all c.loop-rest-test.true) in
+    let more = ap length (c.split_line-split.ensures.all c.loop-rest-test.true) in
     search rules
 
 pub returns : goal.returns

@@ -3,15 +3,15 @@ use Rattle.text.proofs.lines.fine_front.Goals as goal
 use Rattle.text.specs.Lines.{fine}
 use Rattle.std.proofs.Common.{sym, ◌∙◌, arith}
 
-pub returns-then-not-is-fine : goal.returns-then-not-is-fine
-returns-then-not-is-fine c =
+pub returns-then-not-is_fine : goal.returns-then-not-is_fine
+returns-then-not-is_fine c =
     record {
-      count = passed-stop fine _ _ c.loop-i.invariant c.loop-i-test.true (sym c.is-fine.ensures ∙ c.if-not-is-fine.true);
+      count = passed-stop fine _ _ c.loop-i.invariant c.loop-i-test.true (sym c.is_fine.ensures ∙ c.if-not-is_fine.true);
       within = omega arith;
     }
 
 pub loop-i-preserved : goal.loop-i-preserved
-loop-i-preserved c = passed-more fine _ _ c.loop-i.invariant c.loop-i-test.true (sym c.is-fine.ensures ∙ c.if-not-is-fine.false)
+loop-i-preserved c = passed-more fine _ _ c.loop-i.invariant c.loop-i-test.true (sym c.is_fine.ensures ∙ c.if-not-is_fine.false)
 
 pub returns : goal.returns
 returns c =

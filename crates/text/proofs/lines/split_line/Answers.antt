@@ -7,7 +7,7 @@ use Rattle.std.proofs.Common.{◌≡◌, take, rules}
 pub returns : goal.returns
 returns c =
     let text = c.args.input.now in
-    let end = c.up-to-end.result in
+    let end = c.up_to-end.result in
     let past = drop-drop 1 end text in
     let l : take end text ≡ first_line text = search rules in
     let r : c.skip-2.result.now ≡ after_line text = search rules in

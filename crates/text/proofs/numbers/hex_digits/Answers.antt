@@ -6,20 +6,20 @@ use Rattle.text.proofs.numbers.hex_digits.Goals as goal
 space : (c : goal.In-Some) → 16 * c.loop-i.sum + 16 ≤ 16 ^ 16
 space c = sum_room _ _ _ _ _ _ c.loop-i.invariant 16 (omega arith) (omega arith)
 
-pub returns-in-default : goal.returns-in-default
-returns-in-default c =
-    let wrong = sum-wrong _ _ _ _ _ _ c.loop-i.invariant _ c.loop-i-test.true c.hex-digit.ensures.value c.in-default.is in
-    record { value = ap (λ k. Err (Field k)) c.saturating-add.ensures ∙ wrong; small = tt }
+pub returns-in_default : goal.returns-in_default
+returns-in_default c =
+    let wrong = sum-wrong _ _ _ _ _ _ c.loop-i.invariant _ c.loop-i-test.true c.hex_digit.ensures.value c.in_default.is in
+    record { value = ap (λ k. Err (Field k)) c.saturating_add.ensures ∙ wrong; small = tt }
 
-pub overflow-mul-sum : goal.overflow-mul-sum
-overflow-mul-sum c = omega (arith, space c)
+pub overflow_mul-sum : goal.overflow_mul-sum
+overflow_mul-sum c = omega (arith, space c)
 
-pub overflow-add-sum : goal.overflow-add-sum
-overflow-add-sum c = omega (arith, space c, c.in-Some.ensures.small)
+pub overflow_add-sum : goal.overflow_add-sum
+overflow_add-sum c = omega (arith, space c, c.in-Some.ensures.small)
 
 pub loop-i-preserved : goal.loop-i-preserved
 loop-i-preserved c =
-    sum_more _ _ _ _ _ _ c.loop-i.invariant _ _ c.loop-i-test.true c.hex-digit.ensures.value c.in-Some.is c.in-Some.ensures.small
+    sum_more _ _ _ _ _ _ c.loop-i.invariant _ _ c.loop-i-test.true c.hex_digit.ensures.value c.in-Some.is c.in-Some.ensures.small
 
 pub returns : goal.returns
 returns c =

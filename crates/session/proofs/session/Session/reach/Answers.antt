@@ -5,6 +5,6 @@ use Rattle.session.proofs.session.Session.reach.Goals as goal
 pub returns : goal.returns
 returns g c =
     record {
-      reached = c.run-wish.ensures;
+      reached = c.run_wish.ensures;
       law = reach_law c.args.ranges.now c.args.term (view g.C.Chip.state c.args.self.now) (g.met.C.Chip.sound c.args.self.now.chip);
     }

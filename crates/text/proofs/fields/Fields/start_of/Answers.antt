@@ -13,8 +13,8 @@ pub loop-skipped-preserved : goal.loop-skipped-preserved
 loop-skipped-preserved c =
     let u = left c.loop-skipped.rest in
     let v = left c.next.new.self in
-    let f = plain c.in-default.field-0 in
-    let one = reads u (Ok f) v c.in-default.ensures in
+    let f = plain c.in_default.field-0 in
+    let one = reads u (Ok f) v c.in_default.ensures in
     let some : 0 < c.args.n - c.loop-skipped.skipped = omega arith in
     let e : (c.args.n - c.loop-skipped.skipped) - 1 ≡ c.args.n - (c.loop-skipped.skipped + 1) = omega arith in
     c.loop-skipped.invariant ∙ start_later (c.args.n - c.loop-skipped.skipped) f u.fields v.fields one.0 some
