@@ -13,5 +13,5 @@ returns-in-Err c =
     record {
       text = search rules;
       short =
-          let s = no_short c.number.result c.place.result c.number.type-inv c.place.type-inv in search rules;
+          let s = no_short c.number.result c.place.result c.number.type_inv c.place.type_inv in search rules;
     }

@@ -11,14 +11,14 @@ pub returns-in-Err : goal.returns-in-Err
 returns-in-Err c =
     let t =
     turn (desk_of c.loop-rest.bench) (desk_of c.obey-answer.new.self) c.loop-rest.number c.loop-rest.rest.now
-    c.split-line-split.result.line.now c.split-line-split.result.rest.now c.obey-answer.result
-    (c.split-line-split.ensures.all c.loop-rest-test.true) c.obey-answer.ensures.answer c.obey-answer.ensures.after
+    c.split_line-split.result.line.now c.split_line-split.result.rest.now c.obey-answer.result
+    (c.split_line-split.ensures.all c.loop-rest-test.true) c.obey-answer.ensures.answer c.obey-answer.ensures.after
     in
     let e =
     ends_short c.args.input.now c.args.out.now c.say.new.bytes c.say.new.len
     (onto-back {h' = c.say.new.bytes} {a' = c.say.new.len} c.in-Err.ensures.text (onto_as t c.loop-rest.invariant.0))
     in
-    let more = ap length (c.split-line-split.ensures.all c.loop-rest-test.true) in
+    let more = ap length (c.split_line-split.ensures.all c.loop-rest-test.true) in
     let short = c.in-Err.ensures.short in
     let back = c.in-Err.ensures.text.room in
     let long = c.loop-rest.auto.out in
@@ -29,14 +29,14 @@ pub loop-rest-preserved : goal.loop-rest-preserved
 loop-rest-preserved c =
     let t =
     turn (desk_of c.loop-rest.bench) (desk_of c.obey-answer.new.self) c.loop-rest.number c.loop-rest.rest.now
-    c.split-line-split.result.line.now c.split-line-split.result.rest.now c.obey-answer.result
-    (c.split-line-split.ensures.all c.loop-rest-test.true) c.obey-answer.ensures.answer c.obey-answer.ensures.after
+    c.split_line-split.result.line.now c.split_line-split.result.rest.now c.obey-answer.result
+    (c.split_line-split.ensures.all c.loop-rest-test.true) c.obey-answer.ensures.answer c.obey-answer.ensures.after
     in
-    let more = ap length (c.split-line-split.ensures.all c.loop-rest-test.true) in
-    let short = c.in-default.ensures.short in
-    let whole = c.in-default.ensures.text.long in
+    let more = ap length (c.split_line-split.ensures.all c.loop-rest-test.true) in
+    let short = c.in_default.ensures.short in
+    let whole = c.in_default.ensures.text.long in
     let share = c.loop-rest.invariant.1 in (
-      onto-line {h' = c.say.new.bytes} {a' = c.say.new.len} c.in-default.ensures.text (onto_as t c.loop-rest.invariant.0),
+      onto-line {h' = c.say.new.bytes} {a' = c.say.new.len} c.in_default.ensures.text (onto_as t c.loop-rest.invariant.0),
       omega arith,
     )
 

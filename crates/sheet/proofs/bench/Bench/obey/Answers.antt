@@ -2,9 +2,9 @@ use Rattle.std.proofs.Common.{rules}
 use Rattle.sheet.specs.Bench.{told, next}
 use Rattle.sheet.proofs.bench.Bench.obey.Goals as goal
 
-pub returns-in-err-fields : goal.returns-in-err-fields
+pub returns-in_err-fields : goal.returns-in_err-fields
 unfolding told next
-returns-in-err-fields c = search rules
+returns-in_err-fields c = search rules
 
 pub returns-in-Chip : goal.returns-in-Chip
 unfolding told next
