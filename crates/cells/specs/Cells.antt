@@ -2,11 +2,8 @@
 use Rattle.std.specs.Prelude.{◌≡◌, ◌-◌, ◌^◌, true, false, [], ◌∷◌, Some, None, Ok, Err}
 use Rattle.units.specs.Codes.{set_of}
 use Rattle.units.specs.Ranges.{touching}
-use Rattle.units.specs.declared.ranges.Range.{Range}
 use Rattle.chip.specs.declared.model.Part.TheVariants.{Jw}
-use Rattle.chip.specs.declared.model.Registers.{Registers}
 use Rattle.chip.specs.declared.model.Face.{Face}
-use Rattle.chip.specs.declared.model.Command.{Command}
 use Rattle.chip.specs.declared.model.Bytes.TheVariants.{Zero, Two, Three}
 use Rattle.plan.specs.Plan.{smallest, planned}
 use Rattle.plan.specs.declared.wish.Term.TheVariants.{Now, Kept}

@@ -1,5 +1,5 @@
 -- A register write sets no bit that the part lacks.
-use Rattle.std.proofs.Common.{◌≡◌, ℕ, ◌^◌, ◌<◌, sym, refl, ap, ◌∙◌, arith}
+use Rattle.std.proofs.Common.{◌≡◌, ℕ, ◌^◌, ◌<◌, refl, arith}
 use lib.Bits.{bit_and, bit_or}
 use Rattle.chip.specs.Effect.{bits1, bits2, bits3, lock_bits}
 use Rattle.chip.specs.declared.model.Part.{Part}

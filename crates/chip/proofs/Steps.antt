@@ -1,8 +1,7 @@
 -- The step keeps the part, /WP and the count of the cable, so a chip that takes it makes the exchange.
-use Rattle.std.proofs.Common.{◌≡◌, ℕ, ◌-◌, Bool, true, false, cond, eqb, sym, refl, ap, ◌∙◌, subst, arith, eq-eqb, eqb-true}
-use Rattle.chip.specs.Effect.{order_of, accepts, face_after}
+use Rattle.std.proofs.Common.{◌≡◌, ℕ, Bool, true, false, cond, eqb, sym, refl, ap, ◌∙◌, subst, arith, eq-eqb, eqb-true}
+use Rattle.chip.specs.Effect.{order_of, accepts}
 use Rattle.chip.specs.Step.{taken, obeyed, charged, polled, moved, heard, answered, after, Exchanged}
-use Rattle.chip.specs.declared.model.Face.{Face}
 use Rattle.chip.specs.declared.model.State.{State}
 use Rattle.chip.specs.declared.model.Command.{Command}
 use Rattle.chip.specs.declared.model.Question.{Question}
@@ -10,7 +9,7 @@ use Rattle.chip.specs.declared.model.Question.TheVariants.{Status1, Status2, Sta
 use Rattle.chip.specs.declared.model.Exchange.{Exchange}
 use Rattle.chip.specs.declared.model.Exchange.TheVariants.{Ask, Send}
 use Rattle.chip.specs.declared.model.Answer.{Answer}
-use Rattle.chip.specs.declared.model.Answer.TheVariants.{Down, Carried, Value}
+use Rattle.chip.specs.declared.model.Answer.TheVariants.{Down}
 use Rattle.chip.specs.declared.model.Order.{Order}
 use Rattle.chip.specs.declared.model.Order.TheVariants.{Ignored, Arm, Write, Change}
 

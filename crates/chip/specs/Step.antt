@@ -1,5 +1,5 @@
 -- What a chip means: how it answers an exchange, and what its state is after it.
-use Rattle.std.specs.Prelude.{◌≡◌, ℕ, ◌+◌, ◌-◌, ◌*◌, ◌/◌, ◌%◌, ◌^◌, ◌<◌, ◌≤◌, Bool, true, false, cond, ◌==◌, ◌≢◌, bit_and}
+use Rattle.std.specs.Prelude.{◌≡◌, ℕ, ◌+◌, ◌-◌, ◌*◌, ◌^◌, ◌<◌, ◌≤◌, Bool, cond, ◌==◌, ◌≢◌, bit_and}
 use Rattle.units.specs.Units.{has}
 use Rattle.chip.specs.Effect.{number_of, Clear, Plain, order_of, accepts, written, lasting, face_after, arming_after}
 use Rattle.chip.specs.declared.model.Part.{Part}
@@ -7,7 +7,6 @@ use Rattle.chip.specs.declared.model.Part.TheVariants.{Jw, Xa, Other}
 use Rattle.chip.specs.declared.model.Arming.{Arming}
 use Rattle.chip.specs.declared.model.Arming.TheVariants.{Disarmed, Volatile, Stored}
 use Rattle.chip.specs.declared.model.Registers.{Registers}
-use Rattle.chip.specs.declared.model.Face.{Face}
 use Rattle.chip.specs.declared.model.State.{State}
 use Rattle.chip.specs.declared.model.Command.{Command}
 use Rattle.chip.specs.declared.model.Question.{Question}

@@ -3,8 +3,6 @@ use Rattle.std.specs.Prelude.{◌≡◌, ℕ, ◌^◌, ◌<◌, ◌≤◌, Bool,
 use Rattle.chip.specs.declared.model.Part.TheVariants.{Other}
 use Rattle.chip.specs.declared.model.Arming.{Arming}
 use Rattle.chip.specs.declared.model.Arming.TheVariants.{Disarmed, Stored}
-use Rattle.chip.specs.declared.model.Registers.{Registers}
-use Rattle.chip.specs.declared.model.Face.{Face}
 use Rattle.chip.specs.declared.model.State.{State}
 use Rattle.foreign.specs.declared.memory.Memory.{Memory}
 

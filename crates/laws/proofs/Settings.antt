@@ -1,6 +1,6 @@
 -- The commands by way of a code: they protect just its set, hold what is shared after each, and leave the other settings.
 -- And no command, where the set is protected already.
-use Rattle.std.proofs.Common.{◌≡◌, ℕ, ◌+◌, ◌-◌, ◌*◌, ◌/◌, ◌%◌, ◌^◌, ◌<◌, Bool, true, false, cond, not, ◌&&◌, ◌||◌, eqb, List, [], ◌∷◌, sym, refl, ap, ◌∙◌, subst, arith}
+use Rattle.std.proofs.Common.{◌≡◌, ℕ, ◌-◌, ◌/◌, ◌%◌, ◌^◌, ◌<◌, Bool, true, false, cond, not, ◌&&◌, ◌||◌, eqb, List, [], ◌∷◌, sym, refl, ap, ◌∙◌, subst, arith}
 use borrow.Author.Tests.{eqb-false}
 use lib.Bits.{bit_and}
 use Rattle.units.specs.Codes.{set_of}

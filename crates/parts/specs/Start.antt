@@ -6,7 +6,6 @@ use Rattle.chip.specs.declared.model.Part.TheVariants.{Jw, Xa}
 use Rattle.chip.specs.declared.model.Arming.{Arming}
 use Rattle.chip.specs.declared.model.Arming.TheVariants.{Disarmed, Stored}
 use Rattle.chip.specs.declared.model.Registers.{Registers}
-use Rattle.chip.specs.declared.model.Face.{Face}
 use Rattle.chip.specs.declared.model.State.{State}
 use Rattle.parts.specs.declared.jw_memory.JwMemory.{JwMemory}
 use Rattle.parts.specs.declared.xa_memory.XaMemory.{XaMemory}

@@ -1,6 +1,6 @@
 -- Which units are protected, and which commands on the array that lets through.
-use Rattle.std.specs.Prelude.{◌≡◌, ℕ, ◌+◌, ◌-◌, ◌*◌, ◌/◌, ◌%◌, ◌<◌, ◌≤◌, Bool, true, false, cond, ◌&&◌, ◌⊎◌, Some, None, Option, ◌==◌, bit_and}
-use Rattle.units.specs.Units.{array_size, unit_at, has}
+use Rattle.std.specs.Prelude.{◌≡◌, ℕ, ◌+◌, ◌-◌, ◌*◌, ◌/◌, ◌%◌, Bool, true, false, cond, ◌&&◌, ◌⊎◌, Some, None, Option, ◌==◌, bit_and}
+use Rattle.units.specs.Units.{unit_at, has}
 use Rattle.units.specs.Codes.{set_of}
 use Rattle.units.specs.Ranges.{touching, Holds}
 use Rattle.units.specs.declared.ranges.Range.{Range}

@@ -1,5 +1,5 @@
 -- Entries after entries.
-use Rattle.std.proofs.Common.{◌≡◌, ℕ, ◌+◌, ◌≤◌, List, [], ◌∷◌, ◌++◌, length, sym, refl, ap, ◌∙◌, subst, arith, length-append}
+use Rattle.std.proofs.Common.{◌≡◌, ℕ, ◌+◌, ◌≤◌, List, [], ◌++◌, length, sym, ap, ◌∙◌, subst, arith, length-append}
 use Rattle.places.specs.Laid.{laid}
 use Rattle.places.specs.Pushed.{Added}
 use Rattle.places.proofs.Lay.{laid_none, laid_laid, length_laid}

@@ -1,5 +1,5 @@
 -- What a list over lent places holds, and what writing to it leaves.
-use Rattle.std.specs.Prelude.{◌≡◌, ℕ, ◌+◌, ◌<◌, ◌≤◌, List, length}
+use Rattle.std.specs.Prelude.{◌≡◌, ℕ, ◌+◌, ◌≤◌, List, length}
 use Rattle.places.specs.Laid.{laid}
 
 -- These entries stand after those that were there; the places beyond them are as before.

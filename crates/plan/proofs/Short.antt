@@ -16,7 +16,7 @@ use Rattle.plan.specs.declared.wish.Term.{Term}
 use Rattle.plan.specs.declared.wish.Term.TheVariants.{Now, Kept}
 use Rattle.refusals.specs.Numbers.{run_number}
 use Rattle.refusals.specs.declared.RunFault.{RunFault}
-use Rattle.refusals.specs.declared.RunFault.TheVariants.{NoCode, RegisterLock, PinLock}
+use Rattle.refusals.specs.declared.RunFault.TheVariants.{RegisterLock, PinLock}
 
 -- A unit is not both to be locked and to be unlocked, as it is not both wanted and not.
 not_both : (locks w u : ℕ) → to_lock locks w u ≡ true → to_unlock locks w u ≡ true → ⊥

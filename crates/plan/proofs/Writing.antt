@@ -1,5 +1,5 @@
 -- Commands written after commands.
-use Rattle.std.proofs.Common.{◌≡◌, ℕ, zero, suc, ◌+◌, ◌-◌, ◌*◌, ◌<◌, ◌≤◌, Bool, true, false, cond, List, [], ◌∷◌, ◌++◌, length, Ok, Err, Result, sym, refl, ap, ◌∙◌, subst, le_refl, arith, length-append, MatchResult}
+use Rattle.std.proofs.Common.{◌≡◌, ℕ, zero, suc, ◌+◌, ◌-◌, ◌*◌, ◌<◌, ◌≤◌, Bool, true, false, cond, List, [], ◌∷◌, ◌++◌, length, Ok, Err, Result, ap, ◌∙◌, subst, le_refl, arith, length-append, MatchResult}
 use Rattle.chip.specs.declared.model.Command.{Command}
 use Rattle.places.specs.Pushed.{Added}
 use Rattle.places.proofs.Lay.{length_laid}

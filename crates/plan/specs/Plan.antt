@@ -1,5 +1,5 @@
 -- Which commands meet a wish, or why none do.
-use Rattle.std.specs.Prelude.{ℕ, zero, suc, ◌+◌, ◌-◌, ◌*◌, ◌/◌, ◌%◌, Bool, true, false, cond, not, ◌&&◌, ◌||◌, List, [], ◌∷◌, ◌++◌, Some, None, Ok, Err, Option, Result, ◌==◌, bit_and}
+use Rattle.std.specs.Prelude.{ℕ, zero, suc, ◌+◌, ◌*◌, ◌/◌, ◌%◌, Bool, true, false, cond, not, ◌&&◌, ◌||◌, List, [], ◌∷◌, ◌++◌, Some, None, Ok, Err, Option, Result, ◌==◌, bit_and}
 use Rattle.units.specs.Codes.{set_of}
 use Rattle.units.specs.Units.{first_of, has}
 use Rattle.chip.specs.Effect.{locked}
@@ -7,7 +7,6 @@ use Rattle.chip.specs.declared.model.Part.{Part}
 use Rattle.chip.specs.declared.model.Part.TheVariants.{Jw, Xa, Other}
 use Rattle.chip.specs.declared.model.Face.{Face}
 use Rattle.chip.specs.declared.model.Command.{Command}
-use Rattle.chip.specs.declared.model.Bytes.{Bytes}
 use Rattle.chip.specs.declared.model.Bytes.TheVariants.{Zero, One, Two, Three}
 use Rattle.picture.specs.Protection.{protected}
 use Rattle.plan.specs.declared.wish.Term.{Term}

@@ -1,19 +1,16 @@
 -- What a reach is good for.
-use Rattle.std.proofs.Common.{◌≡◌, ℕ, ◌^◌, ◌<◌, false, List, Some, None, Ok, Err, Option, Result, sym, refl, ap, ◌∙◌, subst, arith}
+use Rattle.std.proofs.Common.{◌≡◌, ℕ, ◌^◌, ◌<◌, false, List, Some, None, Ok, Option, sym, refl, ap, ◌∙◌, subst, arith}
 use Rattle.units.specs.Ranges.{wished, first_failing, inside, aligned, unless, union}
 use Rattle.units.specs.declared.ranges.Range.{Range}
-use Rattle.units.specs.declared.ranges.RangeFault.{RangeFault}
 use Rattle.units.specs.declared.ranges.RangeFault.TheVariants.{Beyond, Cut}
 use Rattle.units.proofs.Unions.{union_right}
 use Rattle.chip.specs.Effect.{suspended, Plain}
 use Rattle.chip.specs.Step.{Known, Sound}
-use Rattle.laws.specs.Laws.{Verdict}
 use Rattle.laws.proofs.Exact.{exact}
-use Rattle.picture.specs.declared.reading.Reading.{Reading}
 use Rattle.plan.specs.Plan.{planned}
 use Rattle.plan.specs.declared.wish.Term.{Term}
 use Rattle.session.specs.Reach.{ranged}
-use Rattle.session.specs.Trace.{ReachLaw, Answered}
+use Rattle.session.specs.Trace.{ReachLaw}
 use Rattle.session.specs.View.{View}
 use Rattle.session.proofs.Traced.{answered}
 

@@ -1,5 +1,5 @@
 -- A plan that was sent is what a reach promises.
-use Rattle.std.proofs.Common.{◌≡◌, ℕ, ◌+◌, ◌≤◌, Bool, true, false, cond, leb, List, [], ◌∷◌, ◌++◌, length, take, Some, None, Ok, Err, Option, Result, sym, refl, ap, ◌∙◌, subst, arith}
+use Rattle.std.proofs.Common.{◌≡◌, ℕ, ◌≤◌, false, cond, leb, List, [], length, take, Some, Ok, Err, Option, Result, sym, refl, ap, ◌∙◌, subst, arith}
 use Rattle.std.proofs.lemmas.List.{append-nil}
 use Rattle.std.proofs.lemmas.Bool.{le-leb}
 use Rattle.units.specs.Ranges.{wished}
@@ -9,7 +9,6 @@ use Rattle.chip.specs.Step.{Known}
 use Rattle.chip.specs.declared.model.Command.{Command}
 use Rattle.picture.specs.declared.reading.Reading.{Reading}
 use Rattle.places.specs.Laid.{laid}
-use Rattle.places.specs.Pushed.{Added}
 use Rattle.places.proofs.Lay.{take_laid}
 use Rattle.plan.specs.Plan.{planned}
 use Rattle.plan.specs.Written.{Plans}

@@ -1,5 +1,5 @@
 -- How long an answer can be.
-use Rattle.std.proofs.Common.{◌≡◌, ℕ, zero, suc, ◌+◌, ◌*◌, ◌^◌, ◌<◌, ◌≤◌, List, [], ◌∷◌, ◌++◌, length, codes, decimal, refl, ap, arith, length-append}
+use Rattle.std.proofs.Common.{◌≡◌, ℕ, zero, suc, ◌^◌, ◌<◌, ◌≤◌, [], ◌∷◌, ◌++◌, length, codes, decimal, refl, ap, arith, length-append}
 use Rattle.output.specs.Hex.{hex}
 use Rattle.sheet.specs.Answers.{seen_text, no_text}
 use Rattle.std.proofs.lemmas.Fmt.{length-decimal-le}

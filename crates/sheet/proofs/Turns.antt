@@ -1,7 +1,7 @@
 -- One turn of a sheet's run, and its end.
-use Rattle.std.proofs.Common.{◌≡◌, ℕ, ◌+◌, ◌%◌, ◌<◌, ◌≤◌, Bool, true, false, cond, List, [], ◌∷◌, ◌++◌, length, take, None, Ok, Err, Option, Result, sym, refl, ap, ◌∙◌, arith}
+use Rattle.std.proofs.Common.{◌≡◌, ℕ, ◌+◌, ◌%◌, ◌≤◌, Bool, true, false, cond, List, [], ◌∷◌, ◌++◌, length, take, None, Ok, Err, Option, Result, sym, refl, ap, ◌∙◌, arith}
 use Rattle.places.specs.Laid.{laid}
-use Rattle.output.specs.Pour.{Paper, Poured, poured}
+use Rattle.output.specs.Pour.{Paper, Poured}
 use Rattle.output.proofs.Pour.{poured_front}
 use Rattle.refusals.specs.declared.SheetFault.{SheetFault}
 use Rattle.refusals.specs.declared.SheetFault.TheVariants.{Room}

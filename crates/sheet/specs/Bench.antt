@@ -1,16 +1,13 @@
 -- What each record of a sheet is answered, and what it leaves on the bench.
-use Rattle.std.specs.Prelude.{ℕ, Bool, true, false, cond, List, Some, None, Ok, Err, Option, Result, nat_lt}
+use Rattle.std.specs.Prelude.{ℕ, Bool, cond, List, Some, None, Ok, Err, Option, Result, nat_lt}
 use Rattle.units.specs.Units.{array_size}
 use Rattle.chip.specs.Step.{keyed, powered}
-use Rattle.chip.specs.declared.model.Part.{Part}
 use Rattle.chip.specs.declared.model.State.{State}
 use Rattle.parts.specs.Start.{started, jw_state, xa_state}
 use Rattle.picture.specs.Protection.{array_command}
 use Rattle.picture.specs.declared.array.ArrayCommand.{ArrayCommand}
-use Rattle.picture.specs.declared.reading.Reading.{Reading}
 use Rattle.records.specs.Records.{ChipText, RecordText, a_chip, a_look, a_key, a_power, a_judge, record_of}
 use Rattle.records.specs.Values.{part_in, values_in, level_in}
-use Rattle.records.specs.declared.values.Values.{Values}
 use Rattle.refusals.specs.declared.Placed.{Placed}
 use Rattle.refusals.specs.declared.RunFault.{RunFault}
 use Rattle.refusals.specs.declared.RunFault.TheVariants.{Code, Beyond}

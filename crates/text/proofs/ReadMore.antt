@@ -1,6 +1,5 @@
 -- One more digit, at any base.
-use Rattle.std.proofs.Common.{◌≡◌, ℕ, ◌+◌, ◌*◌, ◌^◌, ◌<◌, ◌≤◌, List, [], ◌∷◌, length, get_or, drop, Some, None, Ok, Option, Result, sym, ap, ◌∙◌, add_assoc, mul-le-mul_left, mul-add, add-one, arith}
-use Rattle.refusals.specs.declared.SheetFault.{SheetFault}
+use Rattle.std.proofs.Common.{◌≡◌, ℕ, ◌+◌, ◌*◌, ◌^◌, ◌<◌, ◌≤◌, List, length, get_or, drop, Some, None, Ok, Option, sym, ap, ◌∙◌, add_assoc, mul-le-mul_left, mul-add, add-one, arith}
 use Rattle.std.proofs.lemmas.List.{at_drop_more, at_drop_all}
 use Rattle.text.specs.Numbers.{read, misread, with_digit}
 use native.Mathlib.Nat.{pow-succ', pow-le-pow_right}

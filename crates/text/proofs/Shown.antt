@@ -1,8 +1,7 @@
 -- The definitions at texts that are written out.
-use Rattle.std.proofs.Common.{◌≡◌, ℕ, List, [], ◌∷◌, Ok, Err, codes, Result, refl}
-use Rattle.refusals.specs.declared.SheetFault.{SheetFault}
-use Rattle.refusals.specs.declared.SheetFault.TheVariants.{Bytes, Count, Field}
-use Rattle.text.specs.Fields.{FieldText, parts}
+use Rattle.std.proofs.Common.{◌≡◌, ℕ, List, [], ◌∷◌, Ok, Err, codes, refl}
+use Rattle.refusals.specs.declared.SheetFault.TheVariants.{Bytes, Field}
+use Rattle.text.specs.Fields.{FieldText}
 use Rattle.text.specs.Lines.{lines, admitted}
 use Rattle.text.specs.Numbers.{read, hex_of, decimal_of}
 

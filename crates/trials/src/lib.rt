@@ -1,6 +1,7 @@
 // Wishes tried on the simulated parts.
 
 #![tactic(auto)]
+
 #[cfg(test)]
 mod refusing;
 #[cfg(test)]

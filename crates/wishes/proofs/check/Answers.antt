@@ -1,4 +1,4 @@
-use Rattle.std.proofs.Common.{◌≡◌, Ok, Err, sym, ap, ◌∙◌, rules}
+use Rattle.std.proofs.Common.{Ok, Err, sym, ap, ◌∙◌, rules}
 use Rattle.text.specs.Fields.{left, plain, after}
 use Rattle.text.proofs.FieldsLeft.{reads}
 use Rattle.wishes.proofs.Reading.{checked_more, ranges_stop, ranges_none}

@@ -1,5 +1,4 @@
-use Rattle.std.proofs.Common.{◌≡◌, ◌+◌, ◌<◌, ◌≤◌, length, Ok, Err, sym, refl, ap, ◌∙◌, arith, rules}
-use Rattle.places.specs.Laid.{laid}
+use Rattle.std.proofs.Common.{length, Ok, Err, ap, ◌∙◌, arith, rules}
 use Rattle.text.specs.Fields.{left, plain}
 use Rattle.text.proofs.FieldsLeft.{reads}
 use Rattle.wishes.specs.Wishes.{readable}

@@ -1,4 +1,3 @@
-use Rattle.std.proofs.Common.{rules}
 use Rattle.plan.proofs.Smallest.{found, few}
 use Rattle.plan.proofs.choose.code_for.Goals as goal
 

@@ -1,4 +1,4 @@
-use Rattle.std.proofs.Common.{sym, arith, rules}
+use Rattle.std.proofs.Common.{sym, rules}
 use Rattle.places.proofs.Pushes.{added_none, added_more, added_as}
 use Rattle.plan.specs.Plan.{sweep, due, opcode}
 use Rattle.plan.proofs.Writing.{sweep_no_room, sweep_step}

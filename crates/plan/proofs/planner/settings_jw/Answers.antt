@@ -2,7 +2,7 @@ use Rattle.std.proofs.Common.{◌≡◌, cond, ◌||◌, List, [], ◌∷◌, �
 use Rattle.chip.specs.declared.model.Bytes.TheVariants.{One, Two}
 use Rattle.chip.specs.declared.model.Command.{Command}
 use Rattle.chip.specs.declared.model.Part.TheVariants.{Jw}
-use Rattle.plan.specs.Plan.{by_lock_bits, is_kept, arm, first_byte, second_byte, third_byte, settings}
+use Rattle.plan.specs.Plan.{by_lock_bits, is_kept, arm, third_byte, settings}
 use Rattle.plan.proofs.Writing.{writes_more, writes_as}
 use Rattle.plan.proofs.planner.settings_jw.Goals as goal
 

@@ -1,5 +1,4 @@
-use Rattle.std.proofs.Common.{◌≡◌, List, [], rules}
-use Rattle.chip.specs.declared.model.Command.{Command}
+use Rattle.std.proofs.Common.{◌≡◌, [], rules}
 use Rattle.places.proofs.Pushes.{added_none, added_as}
 use Rattle.plan.specs.Plan.{commands_of}
 use Rattle.plan.proofs.planner.write_route.Goals as goal

@@ -1,4 +1,4 @@
-use Rattle.std.proofs.Common.{◌≡◌, sym, ap, ◌∙◌, rules}
+use Rattle.std.proofs.Common.{◌≡◌, rules}
 use Rattle.chip.specs.declared.model.Part.TheVariants.{Jw, Xa}
 use Rattle.session.specs.Asked.{idle_status}
 use Rattle.session.specs.Seen.{rest_of}

@@ -1,6 +1,4 @@
-use Rattle.std.proofs.Common.{◌≤◌, length, sym, ap, subst, arith, rules}
-use Rattle.refusals.specs.Numbers.{sheet_number, sheet_place}
-use Rattle.sheet.specs.Answers.{answer_text}
+use Rattle.std.proofs.Common.{rules}
 use Rattle.sheet.proofs.Lengths.{seen_short, no_short}
 use Rattle.sheet.proofs.answers.say.Goals as goal
 

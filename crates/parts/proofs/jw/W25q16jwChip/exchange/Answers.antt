@@ -1,5 +1,4 @@
 use Rattle.std.proofs.Common.{rules}
-use Rattle.chip.specs.Step.{answered, after}
 use Rattle.chip.proofs.Steps.{stepping}
 use Rattle.parts.specs.Start.{jw_state}
 use Rattle.parts.proofs.jw.W25q16jwChip.exchange.Goals as goal

@@ -1,4 +1,4 @@
-use Rattle.std.proofs.Common.{◌^◌, ◌<◌, ◌≤◌, sym, refl, ap, arith, pow_mono}
+use Rattle.std.proofs.Common.{◌^◌, ◌<◌, ◌≤◌, refl, arith, pow_mono}
 use native.Mathlib.Nat.{div-eq_of_lt}
 use Rattle.chip.proofs.Ands.{below_all}
 use Rattle.units.specs.Units.{has}

@@ -1,5 +1,4 @@
 use Rattle.std.proofs.Common.{rules}
-use Rattle.chip.specs.Step.{answered, after}
 use Rattle.chip.proofs.Steps.{stepping}
 use Rattle.parts.specs.Start.{xa_state}
 use Rattle.parts.proofs.xa.W25x16aChip.exchange.Goals as goal

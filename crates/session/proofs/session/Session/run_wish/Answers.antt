@@ -1,4 +1,4 @@
-use Rattle.std.proofs.Common.{◌≡◌, ℕ, false, take, Some, Ok, Err, sym, refl, ap, subst, rules}
+use Rattle.std.proofs.Common.{◌≡◌, false, Some, Ok, Err, sym, refl, ap, subst, rules}
 use Rattle.chip.specs.Effect.{suspended}
 use Rattle.plan.specs.Plan.{planned}
 use Rattle.session.specs.Reach.{ranged, Reached}
