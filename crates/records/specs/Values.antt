@@ -3,6 +3,7 @@ use Rattle.std.specs.Prelude.{◌≡◌, ℕ, ◌≤◌, Bool, true, false, cond
 use Rattle.chip.specs.Effect.{bits1, bits2, bits3, lock_bits, Clear}
 use Rattle.chip.specs.declared.model.Part.{Part}
 use Rattle.chip.specs.declared.model.Part.TheVariants.{Jw, Xa}
+use Rattle.chip.specs.declared.model.Registers.{Registers}
 use Rattle.refusals.specs.declared.SheetFault.{SheetFault}
 use Rattle.refusals.specs.declared.SheetFault.TheVariants.{Field}
 use Rattle.text.specs.Fields.{FieldText, after}

@@ -1,11 +1,14 @@
 // A line of a sheet as a record of borrowed fields, each with its place in the line.
-ghost use Rattle.records.specs.Records.{record_of, by_word, chip_of, key_of, judge_of, told_record, told_chip};
+ghost use Rattle.records.specs.Records.{record_of, by_word, chip_of, key_of, reach_of, judge_of, told_record, told_chip};
 ghost use Rattle.text.specs.Fields.{left};
 ghost use Rattle.std.specs.Prelude.{◌≡◌};
 
 use refusals::SheetFault;
 use text::fields::{Field, Fields, same};
 use text::lines::admit;
+
+// How many ranges a reach record has at the most.
+const MOST_RANGES: usize = 8;
 
 // The fields of a chip record.
 #[derive(Clone, Copy)]
@@ -26,6 +29,8 @@ pub enum Record<'a> {
     Look,
     Key { level: Field<'a> },
     Power,
+    // the ranges are one part of the line, its fields after the term
+    Reach { term: Field<'a>, ranges: Fields<'a> },
     Judge { code: Field<'a>, address: Field<'a> },
 }
 
@@ -62,6 +67,15 @@ fn key_of<'a>(fields: &mut Fields<'a>) -> Result<Record<'a>, SheetFault>
     Ok(Record::Key { level })
 }
 
+fn reach_of<'a>(fields: &mut Fields<'a>) -> Result<Record<'a>, SheetFault>
+    ensures { told_record result ≡ reach_of (left fields.old) }
+{
+    let term = fields.next()?;
+    let ranges = *fields;
+    ranges.at_most(MOST_RANGES)?;
+    Ok(Record::Reach { term, ranges })
+}
+
 fn judge_of<'a>(fields: &mut Fields<'a>) -> Result<Record<'a>, SheetFault>
     ensures { told_record result ≡ judge_of (left fields.old) }
 {
@@ -80,6 +94,8 @@ fn by_word<'a>(word: &[u8], mut fields: Fields<'a>) -> Result<Record<'a>, SheetF
         Ok(Record::Look)
     } else if same(word, b"judge") {
         judge_of(&mut fields)
+    } else if same(word, b"reach") {
+        reach_of(&mut fields)
     } else if same(word, b"key") {
         key_of(&mut fields)
     } else if same(word, b"power") {

@@ -1,16 +1,19 @@
 -- What a reach is good for.
-use Rattle.std.proofs.Common.{◌≡◌, ℕ, ◌^◌, ◌<◌, false, List, Some, None, Ok, Option, sym, refl, ap, ◌∙◌, subst, arith}
+use Rattle.std.proofs.Common.{◌≡◌, ℕ, ◌^◌, ◌<◌, false, List, Some, None, Ok, Err, Option, Result, sym, refl, ap, ◌∙◌, subst, arith}
 use Rattle.units.specs.Ranges.{wished, first_failing, inside, aligned, unless, union}
 use Rattle.units.specs.declared.ranges.Range.{Range}
+use Rattle.units.specs.declared.ranges.RangeFault.{RangeFault}
 use Rattle.units.specs.declared.ranges.RangeFault.TheVariants.{Beyond, Cut}
 use Rattle.units.proofs.Unions.{union_right}
 use Rattle.chip.specs.Effect.{suspended, Plain}
 use Rattle.chip.specs.Step.{Known, Sound}
+use Rattle.laws.specs.Laws.{Verdict}
 use Rattle.laws.proofs.Exact.{exact}
+use Rattle.picture.specs.declared.reading.Reading.{Reading}
 use Rattle.plan.specs.Plan.{planned}
 use Rattle.plan.specs.declared.wish.Term.{Term}
-use Rattle.session.specs.Reach.{ranged}
-use Rattle.session.specs.Trace.{ReachLaw}
+use Rattle.session.specs.Wish.{ranged}
+use Rattle.session.specs.Trace.{ReachLaw, Answered}
 use Rattle.session.specs.View.{View}
 use Rattle.session.proofs.Traced.{answered}
 
@@ -21,7 +24,7 @@ small_by rs (Some i) b set p q e = let z : ◌≡◌ {A = ℕ} 0 1 = cc in let n
 small_by rs None (Some i) set p q e = let z : ◌≡◌ {A = ℕ} 0 1 = cc in let n : ⊥ = omega arith in elim n [ ]
 small_by rs None None set p q e = let f : union rs ≡ set = cc in subst (λ m. m < 2 ^ 62) f (union_right rs p q).small
 
-small : (rs : List Range) (set : ℕ) → ranged (wished rs) ≡ Ok set → set < 2 ^ 62
+pub small : (rs : List Range) (set : ℕ) → ranged (wished rs) ≡ Ok set → set < 2 ^ 62
 small rs set e = small_by rs (first_failing inside rs) (first_failing aligned rs) set refl refl e
 
 pub reach_law : (rs : List Range) (t : Term) (v : View) → Sound v.state → ReachLaw rs t v

@@ -1,8 +1,12 @@
 mod Arms
+mod InStep
+mod Law
 mod Lawfully
 mod Looks
 mod Pictured
-mod Reaches
+mod Protect
+mod Sent
 mod Sends
 mod Spends
+mod Taken
 mod Traced

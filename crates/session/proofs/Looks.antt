@@ -1,13 +1,13 @@
 -- The questions of a look, put together.
-use Rattle.std.proofs.Common.{◌≡◌, ℕ, ◌-◌, ◌<◌, ◌≤◌, true, cond, eqb, sym, refl, ap, ◌∙◌, arith, eq-eqb}
+use Rattle.std.proofs.Common.{◌≡◌, ℕ, ◌+◌, ◌-◌, ◌*◌, ◌/◌, ◌%◌, ◌^◌, ◌<◌, ◌≤◌, min, Bool, true, false, cond, eqb, ltb, sym, refl, ap, ◌∙◌, subst, arith, eq-eqb}
 use lib.Bits.{bit_and}
-use Rattle.chip.specs.Effect.{bits2, bits3}
-use Rattle.chip.specs.Step.{asked, charged, Sound}
+use Rattle.chip.specs.Effect.{bits1, bits2, bits3}
+use Rattle.chip.specs.Step.{wel, asked, polled, charged, Sound}
 use Rattle.chip.proofs.Ands.{inside}
 use Rattle.chip.specs.declared.model.Part.{Part}
 use Rattle.chip.specs.declared.model.Part.TheVariants.{Jw, Xa, Other}
 use Rattle.chip.specs.declared.model.State.{State}
-use Rattle.chip.specs.declared.model.Question.TheVariants.{Status2, Status3}
+use Rattle.chip.specs.declared.model.Question.TheVariants.{Status1, Status2, Status3, PartNumber}
 use Rattle.session.specs.Asked.{spent}
 use Rattle.session.specs.Seen.{rest_of}
 use Rattle.session.specs.declared.rest.Rest.{Rest}

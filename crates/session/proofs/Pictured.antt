@@ -1,5 +1,5 @@
 -- The answers of a look make the chip's own face.
-use Rattle.std.proofs.Common.{◌≡◌, ℕ, ◌+◌, ◌*◌, ◌/◌, ◌%◌, ◌<◌, Bool, false, cond, eqb, sym, refl, ap, ◌∙◌, subst, arith}
+use Rattle.std.proofs.Common.{◌≡◌, ℕ, ◌+◌, ◌*◌, ◌/◌, ◌%◌, ◌^◌, ◌<◌, ◌≤◌, Bool, true, false, cond, eqb, sym, refl, ap, ◌∙◌, subst, arith}
 use lib.Bits.{bit_and, and_le_r, and_zero_r}
 use Rattle.units.proofs.Tests.{same_below2}
 use Rattle.chip.specs.Effect.{bits1, bits2, bits3, lock_bits, Plain}
@@ -11,6 +11,7 @@ use Rattle.chip.specs.declared.model.Part.TheVariants.{Jw, Xa, Other}
 use Rattle.chip.specs.declared.model.Arming.{Arming}
 use Rattle.chip.specs.declared.model.Arming.TheVariants.{Disarmed, Volatile, Stored}
 use Rattle.chip.specs.declared.model.Registers.{Registers}
+use Rattle.chip.specs.declared.model.Face.{Face}
 use Rattle.picture.specs.declared.reading.Reading.{Reading}
 use Rattle.session.specs.Look.{shown, read_of}
 use Rattle.session.specs.Seen.{seen, rest_of}

@@ -1,20 +1,21 @@
 -- Sending, command by command.
-use Rattle.std.proofs.Common.{◌≡◌, ℕ, ◌+◌, ◌<◌, ◌≤◌, true, cond, List, length, get_or, drop, Ok, Err, sym, ap, ◌∙◌}
+use Rattle.std.proofs.Common.{◌≡◌, ℕ, ◌+◌, ◌<◌, ◌≤◌, Bool, true, false, cond, eqb, List, [], ◌∷◌, length, get_or, drop, Ok, Err, Result, sym, refl, ap, ◌∙◌, subst, arith}
 use Rattle.std.proofs.lemmas.List.{at_drop_more, drop_all}
 use Rattle.std.proofs.lemmas.Bool.{ne_eqb}
 use Rattle.chip.specs.Step.{after, Known, Owes}
 use Rattle.chip.specs.declared.model.Bytes.TheVariants.{Zero}
 use Rattle.chip.specs.declared.model.Command.{Command}
 use Rattle.chip.specs.declared.model.Exchange.{Exchange}
-use Rattle.chip.specs.declared.model.Exchange.TheVariants.{Send}
+use Rattle.chip.specs.declared.model.Exchange.TheVariants.{Ask, Send}
 use Rattle.chip.specs.declared.model.Part.{Part}
 use Rattle.chip.specs.declared.model.Part.TheVariants.{Jw, Xa, Other}
 use Rattle.chip.specs.declared.model.State.{State}
 use Rattle.picture.specs.Shown.{followed}
 use Rattle.picture.specs.declared.reading.Reading.{Reading}
+use Rattle.refusals.specs.declared.CableFault.{CableFault}
 use Rattle.refusals.specs.declared.CableFault.TheVariants.{Down}
 use Rattle.refusals.specs.declared.Sent.{Sent}
-use Rattle.session.specs.Send.{World, wait_answer, waited, sent_on, awaits, unless_failed, one_sent, further, sends}
+use Rattle.session.specs.Send.{World, wait_answer, waited, sent_on, awaits, unless_failed, one_sent, further, and_then, sends}
 
 -- A known part owes every exchange.
 pub owes : (p : Part) (e : Exchange) → Known p → Owes p e

@@ -1,5 +1,5 @@
 -- What a run of questions finds, and what it costs: each that the cable carries, one of its exchanges.
-use Rattle.std.specs.Prelude.{◌≡◌, ℕ, ◌+◌, ◌-◌, ◌*◌, ◌<◌, ◌≤◌, min, Bool, cond, is_err, Result, MatchResult, ◌==◌, nat_lt}
+use Rattle.std.specs.Prelude.{◌≡◌, ℕ, ◌+◌, ◌-◌, ◌*◌, ◌<◌, ◌≤◌, min, Bool, cond, is_err, Ok, Err, Result, MatchResult, ◌==◌, nat_lt}
 use Rattle.chip.specs.Step.{wel, asked, polled, charged}
 use Rattle.chip.specs.declared.model.Question.{Question}
 use Rattle.chip.specs.declared.model.State.{State}

@@ -24,7 +24,7 @@ abbrev pub look_answer : View → Result ℕ RunFault
 look_answer v = protected_in (looking v.state)
 
 abbrev pub after_look : View → View
-after_look v = record { state = looked v.state; number = v.number; picture = read_in (looking v.state) }
+after_look v = record { state = looked v.state; number = v.number; picture = read_in (looking v.state); lifted = v.lifted }
 
 -- Key is passed on to the chip, and of the picture only the level changes.
 abbrev pub rekeyed_in : Bool → Option Reading → Option Reading
@@ -35,12 +35,14 @@ pub record KeyTurned (high : Bool) (v w : View) : Type 0 where
   pub chip : Keyed high v.state w.state
   pub number : w.number ≡ v.number
   pub picture : w.picture ≡ rekeyed_in high v.picture
+  pub lifted : w.lifted ≡ v.lifted
 
 -- Power is passed on to the chip, and the session is blind.
 pub record PowerCycled (v w : View) : Type 0 where
   pub chip : Powered v.state w.state
   pub number : w.number ≡ v.number
   pub picture : w.picture ≡ None
+  pub lifted : w.lifted ≡ v.lifted
 
 -- Judge: a code that cannot be judged, then an address beyond the array, then the want of a picture.
 abbrev pub judged_in : Option Reading → ArrayCommand → ℕ → Result Bool RunFault

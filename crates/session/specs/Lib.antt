@@ -1,7 +1,9 @@
 pub mod Asked
 pub mod Calls
+pub mod Law
 pub mod Look
-pub mod Reach
+pub mod Wish
+pub mod Duties
 pub mod Seen
 pub mod Send
 pub mod Trace

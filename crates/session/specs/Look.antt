@@ -1,5 +1,5 @@
 -- What a look answers, for every chip, and what it leaves.
-use Rattle.std.specs.Prelude.{ℕ, ◌+◌, min, false, cond, Ok, Err, Result, nat_lt}
+use Rattle.std.specs.Prelude.{ℕ, ◌+◌, min, Bool, true, false, cond, Ok, Err, Result, nat_lt}
 use Rattle.chip.specs.declared.model.Part.{Part}
 use Rattle.chip.specs.declared.model.Part.TheVariants.{Jw, Xa, Other}
 use Rattle.chip.specs.declared.model.Arming.{Arming}

@@ -1,5 +1,5 @@
 -- How the answers to a look's questions are put together.
-use Rattle.std.specs.Prelude.{ℕ, ◌/◌, ◌%◌, Bool, false, cond, Ok, Err, Result, ◌==◌, bit_and}
+use Rattle.std.specs.Prelude.{ℕ, ◌/◌, ◌%◌, Bool, true, false, cond, Ok, Err, Result, ◌==◌, bit_and}
 use Rattle.chip.specs.declared.model.Part.{Part}
 use Rattle.chip.specs.declared.model.Arming.TheVariants.{Disarmed, Stored}
 use Rattle.chip.specs.declared.model.State.{State}

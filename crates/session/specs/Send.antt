@@ -1,13 +1,15 @@
 -- Sending the commands of a plan: which exchanges are made, and what they leave of the chip and of the picture.
-use Rattle.std.specs.Prelude.{ℕ, ◌+◌, Bool, true, false, cond, List, [], ◌∷◌, Ok, Err, Result, ◌==◌, nat_lt}
+use Rattle.std.specs.Prelude.{ℕ, ◌+◌, Bool, true, false, cond, List, [], ◌∷◌, ◌++◌, replicate, Ok, Err, Result, ◌==◌, nat_lt}
 use Rattle.chip.specs.Effect.{order_of}
 use Rattle.chip.specs.Step.{after}
 use Rattle.chip.specs.declared.model.Arming.{Arming}
 use Rattle.chip.specs.declared.model.Arming.TheVariants.{Disarmed, Volatile, Stored}
 use Rattle.chip.specs.declared.model.Command.{Command}
-use Rattle.chip.specs.declared.model.Exchange.TheVariants.{Send}
+use Rattle.chip.specs.declared.model.Exchange.{Exchange}
+use Rattle.chip.specs.declared.model.Exchange.TheVariants.{Ask, Send}
 use Rattle.chip.specs.declared.model.Order.{Order}
 use Rattle.chip.specs.declared.model.Order.TheVariants.{Ignored, Arm, Write, Change}
+use Rattle.chip.specs.declared.model.Question.TheVariants.{Status1}
 use Rattle.chip.specs.declared.model.State.{State}
 use Rattle.picture.specs.Shown.{followed, busy_shown}
 use Rattle.picture.specs.declared.reading.Reading.{Reading}

@@ -1,8 +1,9 @@
 -- The exchanges that a sending makes, in order, and what they say of a wish.
-use Rattle.std.specs.Prelude.{◌≡◌, ℕ, false, cond, List, [], ◌∷◌, ◌++◌, replicate, Some, Ok, Err, Result, ◌==◌}
+use Rattle.std.specs.Prelude.{◌≡◌, ℕ, Bool, true, false, cond, List, [], ◌∷◌, ◌++◌, replicate, Some, Ok, Err, Option, Result, ◌==◌}
 use Rattle.chip.specs.declared.model.Command.{Command}
 use Rattle.chip.specs.declared.model.Exchange.{Exchange}
 use Rattle.chip.specs.declared.model.Exchange.TheVariants.{Ask, Send}
+use Rattle.chip.specs.declared.model.Face.{Face}
 use Rattle.chip.specs.declared.model.Question.TheVariants.{Status1}
 use Rattle.chip.specs.declared.model.State.{State}
 use Rattle.chip.specs.Effect.{suspended}
@@ -14,8 +15,9 @@ use Rattle.picture.specs.declared.reading.Reading.{Reading}
 use Rattle.plan.specs.Plan.{planned}
 use Rattle.plan.specs.declared.wish.Term.{Term}
 use Rattle.refusals.specs.declared.CableFault.{CableFault}
+use Rattle.refusals.specs.declared.Sent.{Sent}
 use Rattle.session.specs.Asked.{carried_reads}
-use Rattle.session.specs.Reach.{ranged}
+use Rattle.session.specs.Wish.{ranged}
 use Rattle.session.specs.View.{View}
 use Rattle.units.specs.Ranges.{wished}
 use Rattle.units.specs.declared.ranges.Range.{Range}

@@ -3,9 +3,11 @@
 #![tactic(auto)]
 
 mod asking;
+mod duty;
 mod look;
 mod rest;
 mod send;
 mod session;
 
-pub use session::Session;
+pub use duty::{Duty, Lifted, Refused};
+pub use session::{Session, wish_in};

@@ -1,11 +1,15 @@
 // A session: a chip, what is known of it, and the calls on it.
 ghost use Rattle.session.specs.Calls.{look_answer, after_look, KeyTurned, PowerCycled, judge_answer, Verdict, protected_shown};
-ghost use Rattle.session.specs.Reach.{ranged, Reached};
+ghost use Rattle.session.specs.Duties.{told_lift, told_back, HandedBack};
+ghost use Rattle.session.specs.Wish.{ranged, wish_plan, reach_plan, Wished};
 ghost use Rattle.units.specs.Ranges.{wished};
+ghost use Rattle.session.specs.Law.{Took, Lawful};
+ghost use Rattle.session.specs.Law.Call.{looks, keys, powers, judges, reaches, lifts, restores, writes_off};
 ghost use Rattle.session.specs.Trace.{ReachLaw};
 ghost use Rattle.session.specs.View.{view, reading_in};
-ghost use Rattle.std.specs.Prelude.{◌≡◌, None};
+ghost use Rattle.std.specs.Prelude.{◌≡◌, false, length, Some, None, ◌==◌};
 
+use crate::duty::{Duty, Lifted, Refused};
 use crate::look;
 use crate::send::send;
 use chip::effect;
@@ -23,17 +27,21 @@ pub struct Session<C> {
     number: u16,
     // none while the session is blind
     picture: Option<Picture>,
+    // a lift is out
+    lifted: bool,
 }
 
 impl<C: Chip> Session<C> {
     // A session over the chip, whatever state that is in. It starts blind.
     pub fn open(chip: C, number: u16) -> Session<C>
-        ensures { view C.Chip.state result ≡ record { state = C.Chip.state chip; number = number; picture = None } }
+        ensures view { view C.Chip.state result ≡ record { state = C.Chip.state chip; number = number; picture = None; lifted = false } }
+        ensures law { Lawful (view C.Chip.state result) }
     {
         Session {
             chip,
             number,
             picture: None,
+            lifted: false,
         }
     }
 
@@ -41,6 +49,7 @@ impl<C: Chip> Session<C> {
     pub fn look(&mut self) -> Result<u64, RunFault>
         ensures answer { result ≡ look_answer (view C.Chip.state self.old) }
         ensures after { view C.Chip.state self.new ≡ after_look (view C.Chip.state self.old) }
+        ensures took { Took (looks result) (view C.Chip.state self.old) (view C.Chip.state self.new) }
     {
         match look::read(&mut self.chip) {
             Ok(picture) => {
@@ -56,7 +65,8 @@ impl<C: Chip> Session<C> {
 
     // Sets the level of /WP.
     pub fn key(&mut self, high: bool)
-        ensures { KeyTurned high (view C.Chip.state self.old) (view C.Chip.state self.new) }
+        ensures turned { KeyTurned high (view C.Chip.state self.old) (view C.Chip.state self.new) }
+        ensures took { Took (keys high) (view C.Chip.state self.old) (view C.Chip.state self.new) }
     {
         self.chip.key(high);
         if let Some(seen) = self.picture {
@@ -68,7 +78,8 @@ impl<C: Chip> Session<C> {
 
     // Power off and on. What was known of the chip is known no more.
     pub fn power(&mut self)
-        ensures { PowerCycled (view C.Chip.state self.old) (view C.Chip.state self.new) }
+        ensures cycled { PowerCycled (view C.Chip.state self.old) (view C.Chip.state self.new) }
+        ensures took { Took powers (view C.Chip.state self.old) (view C.Chip.state self.new) }
     {
         self.chip.power();
         self.picture = None;
@@ -78,6 +89,7 @@ impl<C: Chip> Session<C> {
     pub fn judge(&self, code: u8, address: u32) -> Result<bool, RunFault>
         ensures answer { result ≡ judge_answer code address (view C.Chip.state self.now) }
         ensures verdict { Verdict result code address (view C.Chip.state self.now) }
+        ensures took { Took (judges code address result) (view C.Chip.state self.now) (view C.Chip.state self.now) }
     {
         let Some(command) = ArrayCommand::of(code) else {
             return Err(RunFault::Code);
@@ -103,29 +115,132 @@ impl<C: Chip> Session<C> {
         term: Term,
         slots: &mut [Command],
     ) -> Result<usize, RunFault>
-        ensures reached { Reached ranges.now term (view C.Chip.state self.old) slots.old result (view C.Chip.state self.new) slots.new }
+        ensures reached { Wished (reach_plan ranges.now term (length slots.old) (view C.Chip.state self.old)) (view C.Chip.state self.old) slots.old result (view C.Chip.state self.new) slots.new }
         ensures law { ReachLaw ranges.now term (view C.Chip.state self.old) }
+        ensures took { Took (reaches ranges.now term slots.old result slots.new) (view C.Chip.state self.old) (view C.Chip.state self.new) }
     {
-        self.run_wish(ranges, term, slots)
+        self.reach_ranges(ranges, term, slots)
     }
 
-    // Checks, plans and sends a wish for the units of the ranges.
-    fn run_wish(
+    // The same, of which the laws of `reach` are proved once and not at every exit.
+    fn reach_ranges(
         &mut self,
         ranges: &[Range],
         term: Term,
         slots: &mut [Command],
     ) -> Result<usize, RunFault>
-        ensures { Reached ranges.now term (view C.Chip.state self.old) slots.old result (view C.Chip.state self.new) slots.new }
+        ensures wished { Wished (reach_plan ranges.now term (length slots.old) (view C.Chip.state self.old)) (view C.Chip.state self.old) slots.old result (view C.Chip.state self.new) slots.new }
+        ensures part { (C.Chip.state self.new.chip).face.part ≡ (C.Chip.state self.old.chip).face.part }
+        ensures number { self.new.number ≡ self.old.number }
     {
         let set = wish_in(ranges)?;
         let Some(seen) = self.picture else {
             return Err(RunFault::Blind);
         };
+        if self.lifted {
+            return Err(RunFault::LiftOut);
+        }
+        self.run_wish(seen, Wish { set, term }, slots)
+    }
+
+    // Opens the units of the ranges for now: wishes for what is protected, less these. Done, it gives the duty to end the
+    // lift, and until then there is neither reach nor lift.
+    pub fn lift(&mut self, ranges: &[Range], slots: &mut [Command]) -> Result<Lifted, RunFault>
+        ensures took { Took (lifts ranges.now slots.old (told_lift result) slots.new) (view C.Chip.state self.old) (view C.Chip.state self.new) }
+    {
+        let open = wish_in(ranges)?;
+        let Some(seen) = self.picture else {
+            return Err(RunFault::Blind);
+        };
+        if self.lifted {
+            return Err(RunFault::LiftOut);
+        }
+        let before = seen.protected();
+        let wish = Wish {
+            set: before ^ (before & open),
+            term: Term::Now,
+        };
+        match self.run_wish(seen, wish, slots) {
+            Ok(count) => {
+                self.lifted = true;
+                Ok(Lifted {
+                    duty: Duty::new(self.number, before),
+                    count,
+                })
+            }
+            Err(fault) => Err(fault),
+        }
+    }
+
+    // Ends a lift: has just that protected again, for now, which was before it. Refused, or failed, it hands the duty back.
+    pub fn restore(&mut self, duty: Duty, slots: &mut [Command]) -> Result<usize, Refused>
+        ensures back { HandedBack result duty }
+        ensures took { Took (restores duty.session duty.set slots.old (told_back result) slots.new) (view C.Chip.state self.old) (view C.Chip.state self.new) }
+    {
+        if !self.owns(&duty) {
+            return Err(Refused {
+                fault: RunFault::OtherSession,
+                duty,
+            });
+        }
+        let Some(seen) = self.picture else {
+            return Err(Refused {
+                fault: RunFault::Blind,
+                duty,
+            });
+        };
+        let wish = Wish {
+            set: duty.set(),
+            term: Term::Now,
+        };
+        match self.run_wish(seen, wish, slots) {
+            Ok(count) => {
+                let _ = duty.spend();
+                self.lifted = false;
+                Ok(count)
+            }
+            Err(fault) => Err(Refused { fault, duty }),
+        }
+    }
+
+    // Ends a lift without restoring: tells the set that was protected before it. Refused, it hands the duty back.
+    pub fn write_off(&mut self, duty: Duty) -> Result<u64, Refused>
+        ensures back { HandedBack result duty }
+        ensures took { Took (writes_off duty.session duty.set (told_back result)) (view C.Chip.state self.old) (view C.Chip.state self.new) }
+    {
+        if !self.owns(&duty) {
+            return Err(Refused {
+                fault: RunFault::OtherSession,
+                duty,
+            });
+        }
+        self.lifted = false;
+        Ok(duty.spend())
+    }
+
+    // Whether the duty bears the session's number.
+    fn owns(&self, duty: &Duty) -> bool
+        ensures { result ≡ (duty.now.session == self.now.number) }
+    {
+        duty.session() == self.number
+    }
+
+    // Plans a wish from the session's picture, and sends the plan.
+    fn run_wish(
+        &mut self,
+        seen: Picture,
+        wish: Wish,
+        slots: &mut [Command],
+    ) -> Result<usize, RunFault>
+        requires { reading_in self.old.picture ≡ Some seen.reading }
+        ensures wished { Wished (wish_plan seen.reading wish.set wish.term (length slots.old)) (view C.Chip.state self.old) slots.old result (view C.Chip.state self.new) slots.new }
+        ensures part { (C.Chip.state self.new.chip).face.part ≡ (C.Chip.state self.old.chip).face.part }
+        ensures number { self.new.number ≡ self.old.number }
+    {
         if effect::is_suspended(seen.reading().face) {
             return Err(RunFault::Suspended);
         }
-        let count = laws::plan_for(&seen, Wish { set, term }, slots)?;
+        let count = laws::plan_for(&seen, wish, slots)?;
         let mut picture = seen;
         let sent = send(&mut self.chip, &mut picture, &slots[0..count]);
         self.picture = Some(picture);
@@ -155,12 +270,13 @@ impl<C: Chip> Session<C> {
     pub fn number(&self) -> u16
         ensures { result ≡ self.now.number }
     {
+        // as it was opened with
         self.number
     }
 }
 
-// The set that ranges wish for.
-fn wish_in(ranges: &[Range]) -> Result<u64, RunFault>
+// The set that ranges wish for, or the fault of the first range that has one.
+pub fn wish_in(ranges: &[Range]) -> Result<u64, RunFault>
     ensures { result ≡ ranged (wished ranges.now) }
 {
     match units::units_of(ranges) {

@@ -1,2 +1,5 @@
-mod Lengths
+mod Counts
+mod Reached
+mod Saying
+mod Suffice
 mod Turns

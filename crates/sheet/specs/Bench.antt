@@ -1,24 +1,30 @@
 -- What each record of a sheet is answered, and what it leaves on the bench.
-use Rattle.std.specs.Prelude.{ℕ, Bool, cond, List, Some, None, Ok, Err, Option, Result, nat_lt}
+use Rattle.std.specs.Prelude.{ℕ, Bool, true, false, cond, List, Some, None, Ok, Err, Option, Result, nat_lt}
 use Rattle.units.specs.Units.{array_size}
+use Rattle.units.specs.declared.ranges.Range.{Range}
 use Rattle.chip.specs.Step.{keyed, powered}
+use Rattle.chip.specs.declared.model.Command.{Command}
+use Rattle.chip.specs.declared.model.Part.{Part}
 use Rattle.chip.specs.declared.model.State.{State}
 use Rattle.parts.specs.Start.{started, jw_state, xa_state}
 use Rattle.picture.specs.Protection.{array_command}
 use Rattle.picture.specs.declared.array.ArrayCommand.{ArrayCommand}
-use Rattle.records.specs.Records.{ChipText, RecordText, a_chip, a_look, a_key, a_power, a_judge, record_of}
+use Rattle.picture.specs.declared.reading.Reading.{Reading}
+use Rattle.records.specs.Records.{ChipText, RecordText, a_chip, a_look, a_key, a_power, a_reach, a_judge, record_of}
 use Rattle.records.specs.Values.{part_in, values_in, level_in}
-use Rattle.refusals.specs.declared.Placed.{Placed}
+use Rattle.records.specs.declared.values.Values.{Values}
 use Rattle.refusals.specs.declared.RunFault.{RunFault}
 use Rattle.refusals.specs.declared.RunFault.TheVariants.{Code, Beyond}
 use Rattle.refusals.specs.declared.SheetFault.{SheetFault}
-use Rattle.refusals.specs.declared.SheetFault.TheVariants.{NoChip, Run}
+use Rattle.refusals.specs.declared.SheetFault.TheVariants.{NoChip}
 use Rattle.session.specs.Calls.{look_answer, after_look, rekeyed_in, judge_answer}
 use Rattle.session.specs.View.{View, view}
 use Rattle.sheet.specs.declared.bench.Bench.{Bench}
 use Rattle.sheet.specs.declared.bench.Bench.TheVariants.{Empty, OfJw, OfXa}
 use Rattle.sheet.specs.declared.bench.Said.{Said}
 use Rattle.sheet.specs.declared.bench.Said.TheVariants.{Fine, Seen, Obeyed, Ignored}
+use Rattle.sheet.specs.Reaching.{Desk, told_reach, next_reach}
+use Rattle.sheet.specs.Placed.{placed}
 use Rattle.text.specs.Fields.{FieldText, after}
 use Rattle.text.specs.Numbers.{hex_of}
 
@@ -27,6 +33,9 @@ abbrev pub desk_of : Bench → Option View
 desk_of Empty = None
 desk_of (OfJw s) = Some (view (λ x. jw_state x.memory) s)
 desk_of (OfXa s) = Some (view (λ x. xa_state x.memory) s)
+
+abbrev pub desk : Bench → List Range → List Command → Desk
+desk b ranges commands = record { session = desk_of b; ranges = ranges; commands = commands }
 
 -- The state that a chip record starts a chip in.
 abbrev pub start_of : ChipText → Result State SheetFault
@@ -39,20 +48,11 @@ told_start f = after (start_of f) (λ _. Ok Fine)
 
 -- A good chip record puts a blind session over the new chip on the bench, a refused one leaves what was there.
 abbrev pub put_chip : Result State SheetFault → ℕ → Option View → Option View
-put_chip (Ok s) number d = Some (record { state = s; number = number; picture = None })
+put_chip (Ok s) number d = Some (record { state = s; number = number; picture = None; lifted = false })
 put_chip (Err e) number d = d
 
 abbrev pub next_start : ChipText → ℕ → Option View → Option View
 next_start f number d = put_chip (start_of f) number d
-
--- A run's fault, with the place that is told.
-abbrev pub beside : {X : Type 0} → ℕ → Result X RunFault → Result X Placed
-beside place (Ok x) = Ok x
-beside place (Err f) = Err (record { fault = f; place = place })
-
-abbrev pub placed : {X : Type 0} → ℕ → Result X RunFault → Result X SheetFault
-placed place (Ok x) = Ok x
-placed place (Err f) = Err (Run f place)
 
 abbrev pub told_look : Option View → Result Said SheetFault
 told_look None = Err NoChip
@@ -72,7 +72,8 @@ told_key f d = after (level_in f) (λ high. if_chip d)
 
 abbrev pub with_key : Bool → Option View → Option View
 with_key high None = None
-with_key high (Some v) = Some (record { state = keyed high v.state; number = v.number; picture = rekeyed_in high v.picture })
+with_key high (Some v) =
+    Some (record { state = keyed high v.state; number = v.number; picture = rekeyed_in high v.picture; lifted = v.lifted })
 
 abbrev pub if_level : Result Bool SheetFault → Option View → Option View
 if_level (Ok high) d = with_key high d
@@ -86,7 +87,7 @@ told_power d = if_chip d
 
 abbrev pub next_power : Option View → Option View
 next_power None = None
-next_power (Some v) = Some (record { state = powered v.state; number = v.number; picture = None })
+next_power (Some v) = Some (record { state = powered v.state; number = v.number; picture = None; lifted = v.lifted })
 
 -- Judge: the code is tried before the address is read, then that the address lies in the array.
 abbrev pub judgeable : Option ArrayCommand → Result (Unit {0}) RunFault
@@ -112,27 +113,33 @@ abbrev pub told_judge : FieldText → FieldText → Option View → Result Said 
 told_judge code address d = after (command_in code address) (λ c. judge_on c.0 c.1 d)
 
 -- The answer to a record, and what it leaves.
-abbrev pub told_record : RecordText → Option View → Result Said SheetFault
+abbrev pub told_record : RecordText → Desk → Result Said SheetFault
 told_record (a_chip f) d = told_start f
-told_record a_look d = told_look d
-told_record (a_key f) d = told_key f d
-told_record a_power d = told_power d
-told_record (a_judge code address) d = told_judge code address d
+told_record a_look d = told_look d.session
+told_record (a_key f) d = told_key f d.session
+told_record a_power d = told_power d.session
+told_record (a_reach term fs) d = told_reach term fs d
+told_record (a_judge code address) d = told_judge code address d.session
 
-abbrev pub next_record : RecordText → ℕ → Option View → Option View
-next_record (a_chip f) number d = next_start f number d
-next_record a_look number d = next_look d
-next_record (a_key f) number d = next_key f d
-next_record a_power number d = next_power d
+-- Only a reach writes to the places.
+abbrev pub with_session : Desk → Option View → Desk
+with_session d v = record { session = v; ranges = d.ranges; commands = d.commands }
+
+abbrev pub next_record : RecordText → ℕ → Desk → Desk
+next_record (a_chip f) number d = with_session d (next_start f number d.session)
+next_record a_look number d = with_session d (next_look d.session)
+next_record (a_key f) number d = with_session d (next_key f d.session)
+next_record a_power number d = with_session d (next_power d.session)
+next_record (a_reach term fs) number d = next_reach term fs d
 next_record (a_judge code address) number d = d
 
 -- A line is answered as the record that it is, or refused and changes nothing.
-unfoldable pub told : List ℕ → Option View → Result Said SheetFault
+unfoldable pub told : List ℕ → Desk → Result Said SheetFault
 told line d = after (record_of line) (λ r. told_record r d)
 
-abbrev pub if_record : Result RecordText SheetFault → ℕ → Option View → Option View
+abbrev pub if_record : Result RecordText SheetFault → ℕ → Desk → Desk
 if_record (Ok r) number d = next_record r number d
 if_record (Err e) number d = d
 
-unfoldable pub next : List ℕ → ℕ → Option View → Option View
+unfoldable pub next : List ℕ → ℕ → Desk → Desk
 next line number d = if_record (record_of line) number d

@@ -4,6 +4,7 @@
 
 mod answers;
 mod bench;
+mod placing;
 mod runs;
 
-pub use runs::{Unfinished, run};
+pub use runs::{COMMAND_PLACES, RANGE_PLACES, Unfinished, run};

@@ -1,4 +1,4 @@
-use Rattle.std.proofs.Common.{◌≡◌, ◌%◌, ◌^◌, ◌<◌, sym, ap, ◌∙◌, subst, arith}
+use Rattle.std.proofs.Common.{◌≡◌, ◌+◌, ◌*◌, ◌%◌, ◌^◌, ◌<◌, sym, ap, ◌∙◌, subst, arith, rules}
 use mir.Facts.{Fits-bits}
 use Rattle.session.specs.Asked.{spent}
 use Rattle.session.proofs.Spends.{locks_more, locks_fit, locks_all}

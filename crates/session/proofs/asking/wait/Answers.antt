@@ -1,4 +1,4 @@
-use Rattle.std.proofs.Common.{arith}
+use Rattle.std.proofs.Common.{sym, arith, rules}
 use Rattle.session.proofs.Spends.{wait_ends, wait_goes, busy_last, busy_more}
 use Rattle.session.proofs.asking.wait.Goals as goal
 

@@ -1,4 +1,4 @@
-use Rattle.std.proofs.Common.{sym, ◌∙◌, subst, rules}
+use Rattle.std.proofs.Common.{◌≡◌, sym, ◌∙◌, subst, rules}
 use Rattle.chip.specs.Step.{Known}
 use Rattle.session.specs.World.{world}
 use Rattle.session.proofs.Sends.{sent_well, sent_ill, none_left}

@@ -1,4 +1,4 @@
-use Rattle.std.proofs.Common.{◌≡◌, true, rules}
+use Rattle.std.proofs.Common.{◌≡◌, true, sym, rules}
 use Rattle.chip.specs.declared.model.Exchange.TheVariants.{Send}
 use Rattle.session.specs.Send.{awaits}
 use Rattle.session.proofs.Sends.{owes, one_awaited}

@@ -1,39 +1,53 @@
-use Rattle.std.proofs.Common.{◌≡◌, false, Some, Ok, Err, sym, refl, ap, subst, rules}
+use Rattle.std.proofs.Common.{◌≡◌, ℕ, false, length, Ok, Err, refl, subst, rules}
 use Rattle.chip.specs.Effect.{suspended}
 use Rattle.plan.specs.Plan.{planned}
-use Rattle.session.specs.Reach.{ranged, Reached}
-use Rattle.session.specs.View.{view, reading_in}
+use Rattle.session.specs.Wish.{wish_plan, Wished}
+use Rattle.session.specs.View.{view}
 use Rattle.session.specs.World.{world}
-use Rattle.session.proofs.Reaches.{told, made, sent_reach}
+use Rattle.session.proofs.Sent.{told, made, sent_wish, refused_wish}
 use Rattle.session.proofs.session.Session.run_wish.Goals as goal
-use Rattle.units.specs.Ranges.{wished}
+
+pub returns-in_err-count : goal.returns-in_err-count
+returns-in_err-count g c =
+    let v = view g.C.Chip.state c.args.self.now in
+    let x = c.args.seen.reading in
+    let w = c.args.wish in
+    let calm : suspended x.face ≡ false = search rules in
+    let k =
+    refused_wish w.term v c.args.slots.now c.plan_for.new.slots w.«set» x (planned x.face w.«set» w.term)
+    c.in_err-count.field-0.0 calm refl c.in_err-count.ensures.plan
+    in
+    search rules
 
 pub returns-in_err-sent : goal.returns-in_err-sent
 returns-in_err-sent g c =
-    let s = c.args.self.now in
-    let seen = c.in-Some.seen.reading in
-    let picture : reading_in s.picture ≡ Some seen = ap reading_in c.in-Some.is in
-    let calm : suspended seen.face ≡ false = search rules in
-    let wish : ranged (wished c.args.ranges.now) ≡ Ok c.in_ok-set.«set» = sym c.in_ok-set.ensures in
+    let v = view g.C.Chip.state c.args.self.now in
+    let x = c.args.seen.reading in
+    let w = c.args.wish in
+    let calm : suspended x.face ≡ false = search rules in
     let fault : told c.in_ok-count.count (Err c.in_err-sent.field-0.0) ≡ c.from_residual-in_err-sent.result = search rules in
+    let u = world (g.C.Chip.state c.send-sent.new.chip) c.send-sent.new.picture in
     let sent =
-    sent_reach c.args.ranges.now c.args.term (view g.C.Chip.state s) c.args.slots.now c.plan_for.new.slots
-    c.in_ok-count.count c.in_ok-set.«set» seen (planned seen.face c.in_ok-set.«set» c.args.term)
-    (Err c.in_err-sent.field-0.0) (world (g.C.Chip.state c.send-sent.new.chip) c.send-sent.new.picture) wish picture calm
-    refl c.in_ok-count.ensures.plan _ (search rules) c.in_err-sent.ensures.run
+    sent_wish w.term v c.args.slots.now c.plan_for.new.slots c.in_ok-count.count w.«set» x (planned x.face w.«set» w.term)
+    (Err c.in_err-sent.field-0.0) u c.requires calm refl c.in_ok-count.ensures.plan _ (search rules) c.in_err-sent.ensures.run
     in
-    subst (λ r. Reached c.args.ranges.now c.args.term (view g.C.Chip.state s) c.args.slots.now r
-    (made (view g.C.Chip.state s) (world (g.C.Chip.state c.send-sent.new.chip) c.send-sent.new.picture))
-    c.plan_for.new.slots) fault sent
+    record {
+      wished = subst (λ r. Wished (wish_plan x w.«set» w.term (length c.args.slots.now)) v c.args.slots.now r (made v u) c.plan_for.new.slots) fault sent;
+      part = search rules;
+      number = refl;
+    }
 
 pub returns : goal.returns
 returns g c =
-    let s = c.args.self.now in
-    let seen = c.in-Some.seen.reading in
-    let picture : reading_in s.picture ≡ Some seen = ap reading_in c.in-Some.is in
-    let calm : suspended seen.face ≡ false = search rules in
-    let wish : ranged (wished c.args.ranges.now) ≡ Ok c.in_ok-set.«set» = sym c.in_ok-set.ensures in
-    sent_reach c.args.ranges.now c.args.term (view g.C.Chip.state s) c.args.slots.now c.plan_for.new.slots
-    c.in_ok-count.count c.in_ok-set.«set» seen (planned seen.face c.in_ok-set.«set» c.args.term)
-    (Ok tt) (world (g.C.Chip.state c.send-sent.new.chip) c.send-sent.new.picture) wish picture calm
-    refl c.in_ok-count.ensures.plan _ (search rules) c.in_ok-sent.ensures.run
+    let v = view g.C.Chip.state c.args.self.now in
+    let x = c.args.seen.reading in
+    let w = c.args.wish in
+    let calm : suspended x.face ≡ false = search rules in
+    record {
+      wished =
+          sent_wish w.term v c.args.slots.now c.plan_for.new.slots c.in_ok-count.count w.«set» x
+          (planned x.face w.«set» w.term) (Ok tt) (world (g.C.Chip.state c.send-sent.new.chip) c.send-sent.new.picture) c.requires calm
+          refl c.in_ok-count.ensures.plan _ (search rules) c.in_ok-sent.ensures.run;
+      part = search rules;
+      number = refl;
+    }

@@ -25,3 +25,7 @@ returns-in-Power c = search rules
 pub returns-in-Judge : goal.returns-in-Judge
 unfolding told next
 returns-in-Judge c = search rules
+
+pub returns-in-Reach : goal.returns-in-Reach
+unfolding told next
+returns-in-Reach c = search rules
