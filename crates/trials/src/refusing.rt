@@ -1,4 +1,4 @@
-// Every refusal that a wish can have, on a simulated W25Q16JW.
+// The refusals that a wish can have once the chip is looked at, on a simulated W25Q16JW.
 use chip::model::{Bytes, Command, Registers};
 use parts::jw::W25q16jw;
 use plan::wish::Term;
@@ -10,8 +10,8 @@ const BLANK: Command = Command {
     bytes: Bytes::Zero,
 };
 
-// The refusal of a wish for a range, 0 if it is done, and the carry that it takes: of a chip with these registers and no lock
-// bit, /WP low, that has been looked at, over a cable that carries so much more.
+// The refusal of a wish for a range, 0 if it is done: of a chip with these registers and no lock bit, /WP low, that has been
+// looked at, over a cable that carries so much more.
 fn refusal(registers: Registers, more: u16, first: u32, last: u32, term: Term, room: usize) -> u8 {
     let Some(chip) = W25q16jw::new(registers, 0, false, 100, 66 + more as u32) else {
         return 255;

@@ -1,5 +1,5 @@
 use Rattle.std.proofs.Common.{length, refl, ap, arith}
-use Rattle.output.proofs.Pour.{onto, onto_as, onto-line, onto-back, onto_end}
+use Rattle.output.proofs.Pour.{onto, onto_as, onto_line, onto_back, onto_end}
 use Rattle.sheet.specs.Bench.{desk_of}
 use Rattle.sheet.proofs.Turns.{turn, no_more, ends_whole, ends_short}
 use Rattle.sheet.proofs.runs.run.Goals as goal
@@ -16,7 +16,7 @@ returns-in-Err c =
     in
     let e =
     ends_short c.args.input.now c.args.out.now c.say.new.bytes c.say.new.len
-    (onto-back {h' = c.say.new.bytes} {a' = c.say.new.len} c.in-Err.ensures.text (onto_as t c.loop-rest.invariant.0))
+    (onto_back {h' = c.say.new.bytes} {a' = c.say.new.len} c.in-Err.ensures.text (onto_as t c.loop-rest.invariant.0))
     in
     let more = ap length (c.split_line-split.ensures.all c.loop-rest-test.true) in
     let short = c.in-Err.ensures.short in
@@ -36,7 +36,7 @@ loop-rest-preserved c =
     let short = c.in_default.ensures.short in
     let whole = c.in_default.ensures.text.long in
     let share = c.loop-rest.invariant.1 in (
-      onto-line {h' = c.say.new.bytes} {a' = c.say.new.len} c.in_default.ensures.text (onto_as t c.loop-rest.invariant.0),
+      onto_line {h' = c.say.new.bytes} {a' = c.say.new.len} c.in_default.ensures.text (onto_as t c.loop-rest.invariant.0),
       omega arith,
     )
 
