@@ -24,29 +24,28 @@ def sources(ending, root="crates"):
                 yield os.path.join(folder, name)
 
 
+HEAD = re.compile(r"(?:(?:pub|abbrev|unfoldable) )*(record|data) (?:pub )?(\S+)")
+NAMED = re.compile(r"\s*(?:(?:pub|abbrev|unfoldable) )*(?P<name>[^\s(){}]+) :(?: (?P<type>.*))?$")
+
+
 def declared(path):
     """The names that a file of specs/ or proofs/ declares, each with what it is: a type, a field of a record, or another."""
-    kind = None
+    in_record = False
     with open(path, encoding="utf-8") as f:
         for line in f:
             if not line.strip() or line.startswith("--") or line.startswith("use "):
                 continue
-            head = re.match(r"(?:(?:pub|abbrev|unfoldable) )*(record|data) (?:pub )?(\S+)", line)
+            head = HEAD.match(line)
             if head:
-                kind = head.group(1)
+                in_record = head.group(1) == "record"
                 yield head.group(2), "type"
                 continue
-            top = re.match(r"(?:(?:pub|abbrev|unfoldable) )*(\S+) : (.*)$", line)
-            if top:
-                kind = None
-                if not top.group(2).startswith("goal."):
-                    yield top.group(1), "type" if top.group(1)[0].isupper() else "word"
-                continue
-            part = re.match(r"  (?:pub )?(\S+) : ", line)
-            if part and kind:
-                yield part.group(1), "field" if kind == "record" else "word"
-            elif not line.startswith(" "):
-                kind = None
+            if not line.startswith(" "):
+                in_record = False
+            named = NAMED.match(line)
+            if named and not (named.group("type") or "").startswith("goal."):
+                name = named.group("name")
+                yield name, "type" if name[0].isupper() else "field" if in_record else "word"
 
 
 def respelled(name, kind):
@@ -56,8 +55,9 @@ def respelled(name, kind):
 
 
 def mapping():
-    """Each name with a dash that is declared here and nowhere in the library with its new spelling, and the fields among them."""
-    names, fields, all_names, foreign = {}, set(), set(), set()
+    """Each name with a dash that is declared here and nowhere in the library with its new spelling, the fields among them, and
+    those that the kit's scripts have turned, which documents may still tell with a dash."""
+    names, fields, told, all_names, foreign = {}, set(), {}, set(), set()
     for path in sources(".antt"):
         for name, kind in declared(path):
             all_names.add(name)
@@ -70,12 +70,20 @@ def mapping():
                 use = re.match(r"use ([\w.]+)\.\{(.*)\}", line)
                 if use and not os.path.isdir(os.path.join("crates", (use.group(1).split(".") + [""])[1])):
                     foreign.update(w.strip() for w in use.group(2).split(","))
+    for path in sources(".rt"):
+        with open(path, encoding="utf-8") as f:
+            for line in f:
+                if line.lstrip().startswith("ghost use"):
+                    names.update((n, respelled(n, "word")) for n in re.findall(r" as ([a-z]\w*-[\w-]+)", line))
     for name in sorted(set(names) & foreign):
         sys.exit(f"respell: {name} is the library's name too")
     for old, new in names.items():
         if new in all_names or new in foreign:
             sys.exit(f"respell: {old} would fall together with {new}")
-    return names, fields
+    for name in all_names:
+        if "_" in name and name.replace("_", "-") not in all_names:
+            told[name.replace("_", "-")] = name
+    return names, fields, told
 
 
 def words(text, names, fields):
@@ -126,13 +134,13 @@ def rewrite(path, turn, names, fields):
 
 
 def main():
-    names, fields = mapping()
+    names, fields, told = mapping()
     for path in sources(".antt"):
         rewrite(path, in_antt, names, fields)
     for path in sources(".rt"):
         rewrite(path, in_rt, names, fields)
     for path in ["README.md", *sources(".md", "docs")]:
-        rewrite(path, quoted, names, fields)
+        rewrite(path, quoted, told | names, fields)
     print(f"respell: {len(names)} names")
 
 

@@ -22,6 +22,6 @@ table =
       block_30 = refl;
       pin_lock = (refl, refl);
       unpinned = refl;
-      unlock-first = refl;
+      unlock_first = refl;
       register_lock = (refl, refl);
     }

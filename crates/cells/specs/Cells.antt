@@ -40,7 +40,7 @@ pub record Cells : Type 0 where
       planned quad (2 ^ 62 - 1) Now
       ≡ Ok (record { code = 0x50; bytes = Zero } ∷ (record { code = 0x01; bytes = Two 0x98 0x02 } ∷ []))
   -- All but unit 0 for now, by its lock bit; nothing at all, kept, is refused by number 12.
-  pub unlock-first :
+  pub unlock_first :
       planned frozen (2 ^ 62 - 2) Now
       ≡ Ok (record { code = 0x06; bytes = Zero } ∷ (record { code = 0x39; bytes = Three 0x00 0x00 0x00 } ∷ []))
   pub register_lock : (planned frozen 0 Kept ≡ Err RegisterLock) × (run_number RegisterLock ≡ 12)

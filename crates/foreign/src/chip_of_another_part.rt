@@ -2,7 +2,7 @@
 ghost use Rattle.foreign.specs.Foreign.{foreign_state, Strange, Kept};
 ghost use Rattle.std.specs.Prelude.{◌≡◌, ◌≤◌, true, false, MatchOption};
 ghost use Rattle.std.specs.Int.Bits.{bit_and};
-ghost use Rattle.std.proofs.Common.{rules, arith};
+ghost use Rattle.std.proofs.Common.{rules};
 
 use crate::memory::Memory;
 use chip::interface::Chip;
@@ -42,7 +42,7 @@ impl ForeignChip {
 impl Chip for ForeignChip {
     ghost state = { λ x. foreign_state x.memory };
 
-    ghost sound = { first_of (Prim.search rules, Prim.grind (arith, Self.row.coded.inj)) };
+    ghost sound = { Prim.search rules };
 
     fn exchange(&mut self, e: Exchange) -> Answer {
         if self.memory.carry == 0 {

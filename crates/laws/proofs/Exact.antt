@@ -31,41 +31,41 @@ owed_test f w t true x y p q = p refl
 owed_test f w t false x y p q = q refl
 
 module _ (f : Face) (w : ℕ) (plain : Plain f) (known : Known f.part) (calm : suspended f ≡ false) (small : w < 2 ^ 62) where
-  owed-refused : (t : Term) (e : RunFault) → Owed f w t (Err e)
-  owed-refused t e c = refused f w t e plain known calm small c
+  owed_refused : (t : Term) (e : RunFault) → Owed f w t (Err e)
+  owed_refused t e c = refused f w t e plain known calm small c
 
-  owed-code : (t : Term) (c : ℕ) → smallest (codes_of f.part) w ≡ Some c → locked f ≡ false → Owed f w t (Ok (Settings c))
-  owed-code t c e free _ =
+  owed_code : (t : Term) (c : ℕ) → smallest (codes_of f.part) w ≡ Some c → locked f ≡ false → Owed f w t (Ok (Settings c))
+  owed_code t c e free _ =
       let k = a_code (codes_of f.part) w c e in settings_reach f w t c plain known calm free k.0 k.1
 
-  owed-by-code : (t : Term) (o : Option ℕ) → smallest (codes_of f.part) w ≡ o → Owed f w t (by_code o f)
-  owed-by-code t None e = owed-refused t NoCode
-  owed-by-code t (Some c) e =
-      owed_test f w t (locked f) (Err (lock_fault f)) (Ok (Settings c)) (λ _. owed-refused t (lock_fault f)) (owed-code t c e)
+  owed_by_code : (t : Term) (o : Option ℕ) → smallest (codes_of f.part) w ≡ o → Owed f w t (by_code o f)
+  owed_by_code t None e = owed_refused t NoCode
+  owed_by_code t (Some c) e =
+      owed_test f w t (locked f) (Err (lock_fault f)) (Ok (Settings c)) (λ _. owed_refused t (lock_fault f)) (owed_code t c e)
 
-  owed-by-locks : f.part ≡ Jw → Owed f w Now (by_locks f)
-  owed-by-locks jw =
+  owed_by_locks : f.part ≡ Jw → Owed f w Now (by_locks f)
+  owed_by_locks jw =
       owed_test f w Now (by_lock_bits f || not (locked f)) (Ok Locks) (Err (lock_fault f))
-      (λ k _. locks_reach f w jw plain calm small k) (λ _. owed-refused Now (lock_fault f))
+      (λ k _. locks_reach f w jw plain calm small k) (λ _. owed_refused Now (lock_fault f))
 
-  owed-by-either : (o : Option ℕ) → f.part ≡ Jw → smallest (codes_of f.part) w ≡ o → Owed f w Now (by_either o f)
-  owed-by-either None jw e = owed-by-locks jw
-  owed-by-either (Some c) jw e =
-      owed_test f w Now (locked f) (by_locks f) (Ok (Settings c)) (λ _. owed-by-locks jw) (owed-code Now c e)
+  owed_by_either : (o : Option ℕ) → f.part ≡ Jw → smallest (codes_of f.part) w ≡ o → Owed f w Now (by_either o f)
+  owed_by_either None jw e = owed_by_locks jw
+  owed_by_either (Some c) jw e =
+      owed_test f w Now (locked f) (by_locks f) (Ok (Settings c)) (λ _. owed_by_locks jw) (owed_code Now c e)
 
-  owed-by-part : (p : Part) (t : Term) (o : Option ℕ) → f.part ≡ p → smallest (codes_of f.part) w ≡ o →
+  owed_by_part : (p : Part) (t : Term) (o : Option ℕ) → f.part ≡ p → smallest (codes_of f.part) w ≡ o →
       Owed f w t (chosen_by o p t (eqb (protected f) w) f)
-  owed-by-part Jw Now o jw e =
+  owed_by_part Jw Now o jw e =
       owed_test f w Now (eqb (protected f) w) (Ok Nothing) (by_either o f)
-      (λ k _. nothing_reach_now f w (eqb-true (protected f) w k)) (λ _. owed-by-either o jw e)
-  owed-by-part Jw Kept o jw e = owed-by-code Kept o e
-  owed-by-part Xa t o xa e =
+      (λ k _. nothing_reach_now f w (eqb-true (protected f) w k)) (λ _. owed_by_either o jw e)
+  owed_by_part Jw Kept o jw e = owed_by_code Kept o e
+  owed_by_part Xa t o xa e =
       owed_test f w t (eqb (protected f) w) (Ok Nothing) (by_code o f)
-      (λ k _. nothing_reach_xa f w t xa (eqb-true (protected f) w k)) (λ _. owed-by-code t o e)
-  owed-by-part (Other n) t o other e = owed-refused t NoCode
+      (λ k _. nothing_reach_xa f w t xa (eqb-true (protected f) w k)) (λ _. owed_by_code t o e)
+  owed_by_part (Other n) t o other e = owed_refused t NoCode
 
 -- For whatever is read of a chip of a known part, and every wish: the plan reaches it, or no list of commands does.
 pub exact : Exact
 unfolding chosen
 exact f w t plain known calm small =
-    owed-by-part f w plain known calm small f.part t (smallest (codes_of f.part) w) refl refl refl
+    owed_by_part f w plain known calm small f.part t (smallest (codes_of f.part) w) refl refl refl

@@ -21,7 +21,7 @@ use Rattle.picture.specs.Protection.{code, protected}
 use Rattle.plan.specs.Plan.{arm, by_lock_bits, lock_plan, sweep, third_byte, to_lock, to_unlock}
 use Rattle.plan.specs.declared.wish.Term.TheVariants.{Now}
 use Rattle.laws.specs.Laws.{Always, Held, Met, Reaches, Reads, would}
-use Rattle.laws.proofs.Sweeps.{always_append, always-sweep, having, having_own, latch, lock, lock_sets, locks_one, swept, swept-done, swept-either, swept-left, swept-small, unlock, unlock_sets, unlocks_one, would_append, would-sweep}
+use Rattle.laws.proofs.Sweeps.{always_append, always_sweep, having, having_own, latch, lock, lock_sets, locks_one, swept, swept_done, swept_either, swept_left, swept_small, unlock, unlock_sets, unlocks_one, would_append, would_sweep}
 
 -- Each unit is as before or as wished.
 abbrev Between : ℕ → ℕ → ℕ → Type 0
@@ -54,37 +54,37 @@ abbrev falling : ℕ → ℕ → ℕ → ℕ
 falling old w n = swept (to_unlock old w) unlock n (rising old w 62)
 
 module _ (old w : ℕ) where
-  rising-between : (n : ℕ) → Between old w (rising old w n)
-  rising-between n u =
+  rising_between : (n : ℕ) → Between old w (rising old w n)
+  rising_between n u =
       ⊎_elim
       (λ (e : has (rising old w n) u ≡ has old u). inl e)
       (λ p. inr (p.1 ∙ sym (eqb-true (has w u) 1 (and_parts (eqb (has w u) 1) (eqb (has old u) 0) p.0).0)))
-      (swept-either (to_lock old w) lock 1 lock_sets n u old)
+      (swept_either (to_lock old w) lock 1 lock_sets n u old)
 
-  falling-between : (n : ℕ) → Between old w (falling old w n)
-  falling-between n u =
+  falling_between : (n : ℕ) → Between old w (falling old w n)
+  falling_between n u =
       ⊎_elim
       (λ (e : has (falling old w n) u ≡ has (rising old w 62) u).
       ⊎_elim
       (λ (same : has (rising old w 62) u ≡ has old u). inl (e ∙ same))
       (λ (same : has (rising old w 62) u ≡ has w u). inr (e ∙ same))
-      (rising-between 62 u))
+      (rising_between 62 u))
       (λ p. inr (p.1 ∙ sym (eqb-true (has w u) 0 (and_parts (eqb (has w u) 0) (eqb (has old u) 1) p.0).0)))
-      (swept-either (to_unlock old w) unlock 0 unlock_sets n u (rising old w 62))
+      (swept_either (to_unlock old w) unlock 0 unlock_sets n u (rising old w 62))
 
   -- After both, the lock bits are the wish.
   wished : old < 2 ^ 62 → w < 2 ^ 62 → falling old w 62 ≡ w
   wished h l =
       ext 62 (falling old w 62) w
-      (swept-small (to_unlock old w) unlock 0 unlock_sets 62 (rising old w 62) (omega arith)
-      (swept-small (to_lock old w) lock 1 lock_sets 62 old (omega arith) h))
+      (swept_small (to_unlock old w) unlock 0 unlock_sets 62 (rising old w 62) (omega arith)
+      (swept_small (to_lock old w) lock 1 lock_sets 62 old (omega arith) h))
       l
       (λ u k.
       agree (has w u) (has old u) (has (rising old w 62) u) (has (falling old w 62) u) (has_bit w u) (has_bit old u)
-      (swept-done (to_lock old w) lock 1 lock_sets 62 u old k)
-      (swept-left (to_lock old w) lock 1 lock_sets 62 u old)
-      (swept-done (to_unlock old w) unlock 0 unlock_sets 62 u (rising old w 62) k)
-      (swept-left (to_unlock old w) unlock 0 unlock_sets 62 u (rising old w 62)))
+      (swept_done (to_lock old w) lock 1 lock_sets 62 u old k)
+      (swept_left (to_lock old w) lock 1 lock_sets 62 u old)
+      (swept_done (to_unlock old w) unlock 0 unlock_sets 62 u (rising old w 62) k)
+      (swept_left (to_unlock old w) unlock 0 unlock_sets 62 u (rising old w 62)))
 
 -- The commands that raise WPS, and what they leave.
 abbrev raise : Face → List Command
@@ -175,40 +175,40 @@ abbrev left : State → ℕ → Arming → Arming
 left s w a = latch (to_unlock s.face.locks w) 62 (midway s w a)
 
 module _ (s : State) (w : ℕ) (a : Arming) (h : s.face.locks < 2 ^ 62) (l : w < 2 ^ 62) where
-  locks-risen : would (lockings s w) (having s s.face.locks a) ≡ having s (rising s.face.locks w 62) (midway s w a)
-  locks-risen = would-sweep s (to_lock s.face.locks w) 54 lock locks_one 62 s.face.locks a (omega arith)
+  locks_risen : would (lockings s w) (having s s.face.locks a) ≡ having s (rising s.face.locks w 62) (midway s w a)
+  locks_risen = would_sweep s (to_lock s.face.locks w) 54 lock locks_one 62 s.face.locks a (omega arith)
 
-  locks-fallen : would (unlockings s w) (having s (rising s.face.locks w 62) (midway s w a)) ≡ having s w (left s w a)
-  locks-fallen =
-      would-sweep s (to_unlock s.face.locks w) 57 unlock unlocks_one 62 (rising s.face.locks w 62) (midway s w a) (omega arith)
+  locks_fallen : would (unlockings s w) (having s (rising s.face.locks w 62) (midway s w a)) ≡ having s w (left s w a)
+  locks_fallen =
+      would_sweep s (to_unlock s.face.locks w) 57 unlock unlocks_one 62 (rising s.face.locks w 62) (midway s w a) (omega arith)
       ∙ ap (λ (m : ℕ). having s m (left s w a)) (wished s.face.locks w h l)
 
-  would-plan : (b : Bool) → by_lock_bits s.face ≡ b →
+  would_plan : (b : Bool) → by_lock_bits s.face ≡ b →
       would (lock_plan s.face w) (having s s.face.locks a) ≡ would (last b s) (having s w (left s w a))
   unfolding lock_plan
-  would-plan b e =
+  would_plan b e =
       let rest = last (by_lock_bits s.face) s in
       would_append (lockings s w) (unlockings s w ++ rest) (having s s.face.locks a)
-      ∙ ap (would (unlockings s w ++ rest)) locks-risen
+      ∙ ap (would (unlockings s w ++ rest)) locks_risen
       ∙ would_append (unlockings s w) rest (having s (rising s.face.locks w 62) (midway s w a))
-      ∙ ap (would rest) locks-fallen
+      ∙ ap (would rest) locks_fallen
       ∙ ap (λ (c : Bool). would (last c s) (having s w (left s w a))) e
 
   -- What holds at all lock bits between the old and the wish, and within the last commands, holds after each command.
-  always-plan : (P : State → Type 0) (b : Bool) → by_lock_bits s.face ≡ b →
+  always_plan : (P : State → Type 0) (b : Bool) → by_lock_bits s.face ≡ b →
       ((m : ℕ) → Between s.face.locks w m → (x : Arming) → P (having s m x)) →
       Always P (last b s) (having s w (left s w a)) → Always P (lock_plan s.face w) (having s s.face.locks a)
   unfolding lock_plan
-  always-plan P b e p q =
+  always_plan P b e p q =
       let rest = last (by_lock_bits s.face) s in
       always_append P (lockings s w) (unlockings s w ++ rest) (having s s.face.locks a)
-      (always-sweep s (to_lock s.face.locks w) 54 lock locks_one P s.face.locks
-      (λ i k x. p (rising s.face.locks w i) (rising-between s.face.locks w i) x) 62 a (omega arith))
-      (subst (λ (x : State). Always P (unlockings s w ++ rest) x) (sym locks-risen)
+      (always_sweep s (to_lock s.face.locks w) 54 lock locks_one P s.face.locks
+      (λ i k x. p (rising s.face.locks w i) (rising_between s.face.locks w i) x) 62 a (omega arith))
+      (subst (λ (x : State). Always P (unlockings s w ++ rest) x) (sym locks_risen)
       (always_append P (unlockings s w) rest (having s (rising s.face.locks w 62) (midway s w a))
-      (always-sweep s (to_unlock s.face.locks w) 57 unlock unlocks_one P (rising s.face.locks w 62)
-      (λ i k x. p (falling s.face.locks w i) (falling-between s.face.locks w i) x) 62 (midway s w a) (omega arith))
-      (subst (λ (x : State). Always P rest x) (sym locks-fallen)
+      (always_sweep s (to_unlock s.face.locks w) 57 unlock unlocks_one P (rising s.face.locks w 62)
+      (λ i k x. p (falling s.face.locks w i) (falling_between s.face.locks w i) x) 62 (midway s w a) (omega arith))
+      (subst (λ (x : State). Always P rest x) (sym locks_fallen)
       (subst (λ (c : Bool). Always P (last c s) (having s w (left s w a))) (sym e) q))))
 
 -- What is owed of the plan on one chip.
@@ -239,12 +239,12 @@ good_by : (b : Bool) (s : State) (w : ℕ) (a : Arming) → by_lock_bits s.face 
 good_by true s w a e h l n q k =
     record {
       met =
-          subst (λ (x : State). Met Now w s.face x) (sym (would-plan s w a h l true e))
+          subst (λ (x : State). Met Now w s.face x) (sym (would_plan s w a h l true e))
           (record {
             just = by_these_locks s w (left s w a) e;
             stands = record { srp = refl; srl = refl; qe = refl; lb = refl; hold = refl; drv = refl };
           });
-      held = always-plan s w a h l (Keeps w s.face) true e (λ m b x. held_locks s w m x e b) tt;
+      held = always_plan s w a h l (Keeps w s.face) true e (λ m b x. held_locks s w m x e b) tt;
     }
 good_by false s w a e h l n q k =
     let free = not-true (locked s.face) k in
@@ -252,7 +252,7 @@ good_by false s w a e h l n q k =
     let armed = arms_now s w (left s w a) in
     record {
       met =
-          subst (λ (x : State). Met Now w s.face x) (sym (would-plan s w a h l false e ∙ ends))
+          subst (λ (x : State). Met Now w s.face x) (sym (would_plan s w a h l false e ∙ ends))
           (record {
             just = raised_protects s w n;
             stands =
@@ -266,7 +266,7 @@ good_by false s w a e h l n q k =
                 };
           });
       held =
-          always-plan s w a h l (Keeps w s.face) false e
+          always_plan s w a h l (Keeps w s.face) false e
           (λ m b x. held_as_before (protected s.face) w _ (by_settings s m x e)) (
             held_as_before (protected s.face) w _
                 (ap (λ (x : State). protected x.face) armed ∙ by_settings s w Volatile e),

@@ -64,8 +64,8 @@ write_taken m x s e a l u =
     ∙ ap (λ (b : Bool). cond b (taken (Write x) s) s) (all_three (armed s.arming) (locked s.face) (suspended s.face) a l u)
 
 module _ (f : Face) (w : ℕ) (t : Term) where
-  pub none-sent : (s : State) → Met t w f s → Sent f w t [] s
-  none-sent s h = record { met = h; held = tt }
+  pub none_sent : (s : State) → Met t w f s → Sent f w t [] s
+  none_sent s h = record { met = h; held = tt }
 
   -- One command, and those after it.
   pub one_sent : (m : Command) (cs : List Command) (s u : State) → obeyed m s ≡ u → Holding f w u → Sent f w t cs u → Sent f w t (m ∷ cs) s
@@ -76,11 +76,11 @@ module _ (f : Face) (w : ℕ) (t : Term) where
       }
 
   -- An arming and a register write, and the commands after them.
-  pub write-sent : (m n : Command) (a : Arming) (x : RegisterWrite) (cs : List Command) (s : State) →
+  pub write_sent : (m n : Command) (a : Arming) (x : RegisterWrite) (cs : List Command) (s : State) →
       order_of s.face.part m ≡ Arm a → order_of s.face.part n ≡ Write x → armed a ≡ true →
       locked s.face ≡ false → suspended s.face ≡ false → Holding f w s → Holding f w (taken (Write x) (taken (Arm a) s)) →
       Sent f w t cs (taken (Write x) (taken (Arm a) s)) → Sent f w t (m ∷ (n ∷ cs)) s
-  write-sent m n a x cs s d e b l u p q h =
+  write_sent m n a x cs s d e b l u p q h =
       one_sent m (n ∷ cs) s (taken (Arm a) s) (arm_taken m a s d) p
       (one_sent n cs (taken (Arm a) s) (taken (Write x) (taken (Arm a) s)) (write_taken n x (taken (Arm a) s) e b l u) q h)
 

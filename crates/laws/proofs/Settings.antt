@@ -25,7 +25,7 @@ use Rattle.plan.specs.declared.wish.Term.TheVariants.{Now, Kept}
 use Rattle.laws.specs.Laws.{Reads, Stands, Shows, Met, Reaches}
 use Rattle.laws.proofs.Bytes.{inside_le, first_jw_code, first_jw_srp, first_xa_code, first_xa_srp}
 use Rattle.laws.proofs.Bytes.{second_cmp, second_srl, second_qe, second_lb, second_sus, stored_cmp, third_wps, third_hold, third_drv}
-use Rattle.laws.proofs.Sent.{held_old, held_new, same_stands, Holding, Sent, of_reading, none-sent, write-sent, faced, set_shown, locks_shown}
+use Rattle.laws.proofs.Sent.{held_old, held_new, same_stands, Holding, Sent, of_reading, none_sent, write_sent, faced, set_shown, locks_shown}
 
 -- Registers with the same SRP, SRL and QE are as locked, and with the same SUS as suspended.
 still_locked : (p : Part) (r q : Registers) (l : ℕ) (h : Bool) → Stands r q → locked (faced p q l h) ≡ locked (faced p r l h)
@@ -96,8 +96,8 @@ module _ (r : Registers) (l : ℕ) (h : Bool) (w c : ℕ) (small1 : r.sr1 < 256)
   low : c % 32 < 32
   low = omega arith
 
-  once-stands : Stands r once
-  once-stands =
+  once_stands : Stands r once
+  once_stands =
       record {
         srp = first_jw_srp r.sr1 (c % 32) small1 low;
         srl = second_srl r.sr2 (c / 32) small2 high;
@@ -107,29 +107,29 @@ module _ (r : Registers) (l : ℕ) (h : Bool) (w c : ℕ) (small1 : r.sr1 < 256)
         drv = refl;
       }
 
-  twice-stands : Stands r twice
-  twice-stands =
+  twice_stands : Stands r twice
+  twice_stands =
       record {
-        srp = once-stands.srp;
-        srl = once-stands.srl;
-        qe = once-stands.qe;
-        lb = once-stands.lb;
+        srp = once_stands.srp;
+        srl = once_stands.srl;
+        qe = once_stands.qe;
+        lb = once_stands.lb;
         hold = third_hold r.sr3 small3;
         drv = third_drv r.sr3 small3;
       }
 
-  once-set : r.sr3 / 4 % 2 ≡ 0 → protected (jw once l h) ≡ w
-  once-set z = set_shown Jw once l h c w (second_cmp r.sr2 (c / 32) small2 high) (first_jw_code r.sr1 (c % 32) small1 low) z e
+  once_set : r.sr3 / 4 % 2 ≡ 0 → protected (jw once l h) ≡ w
+  once_set z = set_shown Jw once l h c w (second_cmp r.sr2 (c / 32) small2 high) (first_jw_code r.sr1 (c % 32) small1 low) z e
 
-  twice-set : protected (jw twice l h) ≡ w
-  twice-set =
+  twice_set : protected (jw twice l h) ≡ w
+  twice_set =
       set_shown Jw twice l h c w (second_cmp r.sr2 (c / 32) small2 high) (first_jw_code r.sr1 (c % 32) small1 low)
       (third_wps r.sr3 small3) e
 
   -- What power brings back once both are stored, whatever was before.
-  stored-set : (k : Registers) (m : ℕ) → k.sr2 < 128 →
+  stored_set : (k : Registers) (m : ℕ) → k.sr2 < 128 →
       protected (jw (lasting (written Jw (wps_write (jw r l h)) (lasting (written Jw (code_write (jw r l h) c) k)))) m h) ≡ w
-  stored-set k m b =
+  stored_set k m b =
       set_shown Jw (lasting (written Jw (wps_write (jw r l h)) (lasting (written Jw (code_write (jw r l h) c) k)))) m h c w
       (stored_cmp r.sr2 (c / 32) k.sr2 small2 high b) (first_jw_code r.sr1 (c % 32) small1 low) (third_wps r.sr3 small3) e
 
@@ -143,48 +143,48 @@ module _ (r : Registers) (l : ℕ) (h : Bool) (w c : ℕ) (small1 : r.sr1 < 256)
     abbrev lowered : Term → State
     lowered t = taken (Write (wps_write (jw r l h))) (taken (Arm (arming_of t)) (coded t))
 
-    lowered-met : (t : Term) → Met t w (jw r l h) (lowered t)
-    lowered-met Now = record { just = twice-set; stands = twice-stands }
-    lowered-met Kept = (record { just = twice-set; stands = twice-stands }, stored-set k (2 ^ 62 - 1) below)
+    lowered_met : (t : Term) → Met t w (jw r l h) (lowered t)
+    lowered_met Now = record { just = twice_set; stands = twice_stands }
+    lowered_met Kept = (record { just = twice_set; stands = twice_stands }, stored_set k (2 ^ 62 - 1) below)
 
-    lower-sent : (t : Term) → Holding (jw r l h) w (coded t) → Sent (jw r l h) w t (arm t ∷ (lower_wps (jw r l h) ∷ [])) (coded t)
-    lower-sent t p =
-        write-sent (jw r l h) w t (arm t) (lower_wps (jw r l h)) (arming_of t) (wps_write (jw r l h)) [] (coded t)
+    lower_sent : (t : Term) → Holding (jw r l h) w (coded t) → Sent (jw r l h) w t (arm t ∷ (lower_wps (jw r l h) ∷ [])) (coded t)
+    lower_sent t p =
+        write_sent (jw r l h) w t (arm t) (lower_wps (jw r l h)) (arming_of t) (wps_write (jw r l h)) [] (coded t)
         (arms t) (lowers_wps (jw r l h)) (arms_any t)
-        (still_locked Jw r once l h once-stands ∙ free)
+        (still_locked Jw r once l h once_stands ∙ free)
         (still_suspended Jw r once l h (second_sus r.sr2 (c / 32) small2 high) ∙ calm)
-        p (held_new (protected (jw r l h)) w (protected (jw twice l h)) twice-set)
-        (none-sent (jw r l h) w t (lowered t) (lowered-met t))
+        p (held_new (protected (jw r l h)) w (protected (jw twice l h)) twice_set)
+        (none_sent (jw r l h) w t (lowered t) (lowered_met t))
 
-    code-sent : (t : Term) (cs : List Command) → Holding (jw r l h) w (coded t) → Sent (jw r l h) w t cs (coded t) →
+    code_sent : (t : Term) (cs : List Command) → Holding (jw r l h) w (coded t) → Sent (jw r l h) w t cs (coded t) →
         Sent (jw r l h) w t (arm t ∷ (set_code (jw r l h) c ∷ cs)) start
-    code-sent t cs p g =
-        write-sent (jw r l h) w t (arm t) (set_code (jw r l h) c) (arming_of t) (code_write (jw r l h) c) cs start
+    code_sent t cs p g =
+        write_sent (jw r l h) w t (arm t) (set_code (jw r l h) c) (arming_of t) (code_write (jw r l h) c) cs start
         (arms t) (sets_code (jw r l h) c) (arms_any t) free calm (held_old (protected (jw r l h)) w (protected (jw r l h)) refl) p g
 
     -- With WPS 1 the lock bits protect until the last command, with WPS 0 the code does once it is set.
-    locks-hold : (t : Term) → eqb (r.sr3 / 4 % 2) 1 ≡ true → Holding (jw r l h) w (coded t)
-    locks-hold t z =
+    locks_hold : (t : Term) → eqb (r.sr3 / 4 % 2) 1 ≡ true → Holding (jw r l h) w (coded t)
+    locks_hold t z =
         held_old (protected (jw r l h)) w (protected (jw once l h)) (locks_shown Jw once l h z ∙ sym (locks_shown Jw r l h z))
 
     code_holds : (t : Term) → r.sr3 / 4 % 2 ≡ 0 → Holding (jw r l h) w (coded t)
-    code_holds t z = held_new (protected (jw r l h)) w (protected (jw once l h)) (once-set z)
+    code_holds t z = held_new (protected (jw r l h)) w (protected (jw once l h)) (once_set z)
 
-    wps-low : eqb (r.sr3 / 4 % 2) 1 ≡ false → r.sr3 / 4 % 2 ≡ 0
-    wps-low z = let n = eqb-false (r.sr3 / 4 % 2) 1 z in omega arith
+    wps_low : eqb (r.sr3 / 4 % 2) 1 ≡ false → r.sr3 / 4 % 2 ≡ 0
+    wps_low z = let n = eqb-false (r.sr3 / 4 % 2) 1 z in omega arith
 
-    plan-sent : (b : Bool) (t : Term) → eqb (r.sr3 / 4 % 2) 1 ≡ b → Sent (jw r l h) w t (plan_by b t (jw r l h) c) start
-    plan-sent true t z =
-        let p = locks-hold t z in code-sent t (arm t ∷ (lower_wps (jw r l h) ∷ [])) p (lower-sent t p)
-    plan-sent false Now z =
-        let p = wps-low z in
-        code-sent Now [] (code_holds Now p) (none-sent (jw r l h) w Now (coded Now) (record { just = once-set p; stands = once-stands }))
-    plan-sent false Kept z =
-        let p = code_holds Kept (wps-low z) in code-sent Kept (arm Kept ∷ (lower_wps (jw r l h) ∷ [])) p (lower-sent Kept p)
+    plan_sent : (b : Bool) (t : Term) → eqb (r.sr3 / 4 % 2) 1 ≡ b → Sent (jw r l h) w t (plan_by b t (jw r l h) c) start
+    plan_sent true t z =
+        let p = locks_hold t z in code_sent t (arm t ∷ (lower_wps (jw r l h) ∷ [])) p (lower_sent t p)
+    plan_sent false Now z =
+        let p = wps_low z in
+        code_sent Now [] (code_holds Now p) (none_sent (jw r l h) w Now (coded Now) (record { just = once_set p; stands = once_stands }))
+    plan_sent false Kept z =
+        let p = code_holds Kept (wps_low z) in code_sent Kept (arm Kept ∷ (lower_wps (jw r l h) ∷ [])) p (lower_sent Kept p)
 
-    jw-sent : (t : Term) → Sent (jw r l h) w t (settings Jw t (jw r l h) c) start
+    jw_sent : (t : Term) → Sent (jw r l h) w t (settings Jw t (jw r l h) c) start
     unfolding by_lock_bits
-    jw-sent t = plan-sent (eqb (r.sr3 / 4 % 2) 1) t refl
+    jw_sent t = plan_sent (eqb (r.sr3 / 4 % 2) 1) t refl
 
 -- The W25X16A: SR1 alone, and always stored.
 abbrev xa : Registers → ℕ → Bool → Face
@@ -204,62 +204,62 @@ xa_writes a = refl
 module _ (r k : Registers) (l : ℕ) (h : Bool) (w c : ℕ) (small1 : r.sr1 < 256) (zero2 : r.sr2 ≡ 0) (zero3 : r.sr3 ≡ 0)
     (stored2 : k.sr2 ≡ 0) (stored3 : k.sr3 ≡ 0) (calm : suspended (xa r l h) ≡ false) (free : locked (xa r l h) ≡ false)
     (small : c < 16) (e : set_of c ≡ w) (a : Arming) (busy slow carry : ℕ) where
-  abbrev xa-start : State
-  xa-start = record { face = xa r l h; stored = k; arming = a; busy = busy; slow = slow; carry = carry }
+  abbrev xa_start : State
+  xa_start = record { face = xa r l h; stored = k; arming = a; busy = busy; slow = slow; carry = carry }
 
-  abbrev xa-coded : State
-  xa-coded = taken (Write (sole_write (xa r l h) c)) (taken (Arm Stored) xa-start)
+  abbrev xa_coded : State
+  xa_coded = taken (Write (sole_write (xa r l h) c)) (taken (Arm Stored) xa_start)
 
-  xa-low : c % 32 < 16
-  xa-low = omega arith
+  xa_low : c % 32 < 16
+  xa_low = omega arith
 
-  no-cmp : 0 ≡ c / 32
-  no-cmp = omega arith
+  no_cmp : 0 ≡ c / 32
+  no_cmp = omega arith
 
-  xa-set : protected xa-coded.face ≡ w
-  xa-set =
-      set_shown Xa (written Xa (sole_write (xa r l h) c) r) l h c w (ap (λ (x : ℕ). x / 64 % 2) zero2 ∙ no-cmp)
-      (first_xa_code r.sr1 (c % 32) small1 xa-low) (ap (λ (x : ℕ). x / 4 % 2) zero3) e
+  xa_set : protected xa_coded.face ≡ w
+  xa_set =
+      set_shown Xa (written Xa (sole_write (xa r l h) c) r) l h c w (ap (λ (x : ℕ). x / 64 % 2) zero2 ∙ no_cmp)
+      (first_xa_code r.sr1 (c % 32) small1 xa_low) (ap (λ (x : ℕ). x / 4 % 2) zero3) e
 
-  xa-stored-set : protected (powered xa-coded).face ≡ w
-  xa-stored-set =
-      set_shown Xa (lasting (written Xa (sole_write (xa r l h) c) k)) l h c w (ap (λ (x : ℕ). bit_and x 122 / 64 % 2) stored2 ∙ no-cmp)
-      (first_xa_code r.sr1 (c % 32) small1 xa-low) (ap (λ (x : ℕ). x / 4 % 2) stored3) e
+  xa_stored_set : protected (powered xa_coded).face ≡ w
+  xa_stored_set =
+      set_shown Xa (lasting (written Xa (sole_write (xa r l h) c) k)) l h c w (ap (λ (x : ℕ). bit_and x 122 / 64 % 2) stored2 ∙ no_cmp)
+      (first_xa_code r.sr1 (c % 32) small1 xa_low) (ap (λ (x : ℕ). x / 4 % 2) stored3) e
 
-  xa-shows : Shows w (xa r l h) xa-coded.face
-  xa-shows =
+  xa_shows : Shows w (xa r l h) xa_coded.face
+  xa_shows =
       record {
-        just = xa-set;
-        stands = record { srp = first_xa_srp r.sr1 (c % 32) small1 xa-low; srl = refl; qe = refl; lb = refl; hold = refl; drv = refl };
+        just = xa_set;
+        stands = record { srp = first_xa_srp r.sr1 (c % 32) small1 xa_low; srl = refl; qe = refl; lb = refl; hold = refl; drv = refl };
       }
 
-  xa-met : (t : Term) → Met t w (xa r l h) xa-coded
-  xa-met Now = xa-shows
-  xa-met Kept = (xa-shows, xa-stored-set)
+  xa_met : (t : Term) → Met t w (xa r l h) xa_coded
+  xa_met Now = xa_shows
+  xa_met Kept = (xa_shows, xa_stored_set)
 
-  xa-sent : (t : Term) → Sent (xa r l h) w t (settings Xa t (xa r l h) c) xa-start
-  xa-sent t =
-      write-sent (xa r l h) w t (bare_command 6) (record { code = 1; bytes = One (first_byte (xa r l h) c) }) Stored (sole_write (xa r l h) c) []
-      xa-start xa_arms (xa_writes (first_byte (xa r l h) c)) refl free calm
-      (held_old (protected (xa r l h)) w (protected (xa r l h)) refl) (held_new (protected (xa r l h)) w (protected xa-coded.face) xa-set)
-      (none-sent (xa r l h) w t xa-coded (xa-met t))
+  xa_sent : (t : Term) → Sent (xa r l h) w t (settings Xa t (xa r l h) c) xa_start
+  xa_sent t =
+      write_sent (xa r l h) w t (bare_command 6) (record { code = 1; bytes = One (first_byte (xa r l h) c) }) Stored (sole_write (xa r l h) c) []
+      xa_start xa_arms (xa_writes (first_byte (xa r l h) c)) refl free calm
+      (held_old (protected (xa r l h)) w (protected (xa r l h)) refl) (held_new (protected (xa r l h)) w (protected xa_coded.face) xa_set)
+      (none_sent (xa r l h) w t xa_coded (xa_met t))
 
 -- Each chip that reads so is such a state.
 module _ (r : Registers) (l : ℕ) (h : Bool) (w : ℕ) (t : Term) (c : ℕ) where
-  each-jw : Plain (jw r l h) → suspended (jw r l h) ≡ false → locked (jw r l h) ≡ false → c < 64 → set_of c ≡ w →
+  each_jw : Plain (jw r l h) → suspended (jw r l h) ≡ false → locked (jw r l h) ≡ false → c < 64 → set_of c ≡ w →
       (s : State) → Reads (jw r l h) s → Sent (jw r l h) w t (settings Jw t (jw r l h) c) s
-  each-jw plain calm free small e s reads =
+  each_jw plain calm free small e s reads =
       let b1 = inside_le r.sr1 252 plain.0.0 in
       let b2 = inside_le r.sr2 251 plain.0.1.0 in
       let b3 = inside_le r.sr3 228 plain.0.1.1 in
       let b = inside_le s.stored.sr2 122 reads.sound.lasts in
       of_reading (jw r l h) w t (settings Jw t (jw r l h) c) s reads
-      (jw-sent r l h w c (omega arith) (omega arith) (omega arith) calm free small e s.stored s.arming s.busy s.slow s.carry
+      (jw_sent r l h w c (omega arith) (omega arith) (omega arith) calm free small e s.stored s.arming s.busy s.slow s.carry
       (omega arith) t)
 
-  each-xa : Plain (xa r l h) → suspended (xa r l h) ≡ false → locked (xa r l h) ≡ false → c < 16 → set_of c ≡ w →
+  each_xa : Plain (xa r l h) → suspended (xa r l h) ≡ false → locked (xa r l h) ≡ false → c < 16 → set_of c ≡ w →
       (s : State) → Reads (xa r l h) s → Sent (xa r l h) w t (settings Xa t (xa r l h) c) s
-  each-xa plain calm free small e s reads =
+  each_xa plain calm free small e s reads =
       let b1 = inside_le r.sr1 188 plain.0.0 in
       let b2 = inside_le r.sr2 0 plain.0.1.0 in
       let b3 = inside_le r.sr3 0 plain.0.1.1 in
@@ -267,17 +267,17 @@ module _ (r : Registers) (l : ℕ) (h : Bool) (w : ℕ) (t : Term) (c : ℕ) whe
       let k2 = inside_le s.stored.sr2 0 clear.1.0 in
       let k3 = inside_le s.stored.sr3 0 clear.1.1 in
       of_reading (xa r l h) w t (settings Xa t (xa r l h) c) s reads
-      (xa-sent r s.stored l h w c (omega arith) (omega arith) (omega arith) (omega arith) (omega arith) calm free small e
+      (xa_sent r s.stored l h w c (omega arith) (omega arith) (omega arith) (omega arith) (omega arith) calm free small e
       s.arming s.busy s.slow s.carry t)
 
 reach_by : (p : Part) (r : Registers) (l : ℕ) (h : Bool) (w : ℕ) (t : Term) (c : ℕ) → Plain (faced p r l h) → Known p →
     suspended (faced p r l h) ≡ false → locked (faced p r l h) ≡ false → c < codes_of p → set_of c ≡ w →
     Reaches (settings p t (faced p r l h) c) (faced p r l h) w t
 reach_by Jw r l h w t c plain known calm free small e =
-    let each = each-jw r l h w t c plain calm free small e in
+    let each = each_jw r l h w t c plain calm free small e in
     record { met = λ s reads. (each s reads).met; held = λ s reads. (each s reads).held }
 reach_by Xa r l h w t c plain known calm free small e =
-    let each = each-xa r l h w t c plain calm free small e in
+    let each = each_xa r l h w t c plain calm free small e in
     record { met = λ s reads. (each s reads).met; held = λ s reads. (each s reads).held }
 reach_by (Other n) r l h w t c plain known calm free small e = elim known [ ]
 

@@ -168,100 +168,100 @@ latch test zero a = a
 latch test (suc n) a = cond (test n) Disarmed (latch test n a)
 
 module _ (s : State) (test : ℕ → Bool) (code : ℕ) (op : ℕ → ℕ → ℕ) (does : Does code op) where
-  changed-on : (n m : ℕ) (a : Arming) → n < 62 → would (at_unit code n) (having s m a) ≡ having s (op n m) Disarmed
-  changed-on n m a h = ap (obeyed (unit_command code n)) (arms s m a) ∙ does s n m h
+  changed_on : (n m : ℕ) (a : Arming) → n < 62 → would (at_unit code n) (having s m a) ≡ having s (op n m) Disarmed
+  changed_on n m a h = ap (obeyed (unit_command code n)) (arms s m a) ∙ does s n m h
 
-  would-last : (b : Bool) (n m : ℕ) (a : Arming) → n < 62 →
+  would_last : (b : Bool) (n m : ℕ) (a : Arming) → n < 62 →
       would (cond b (at_unit code n) []) (having s m a) ≡ having s (cond b (op n m) m) (cond b Disarmed a)
-  would-last true n m a h = changed-on n m a h
-  would-last false n m a h = refl
+  would_last true n m a h = changed_on n m a h
+  would_last false n m a h = refl
 
-  pub would-sweep : (n m : ℕ) (a : Arming) → n ≤ 62 →
+  pub would_sweep : (n m : ℕ) (a : Arming) → n ≤ 62 →
       would (sweep test code n) (having s m a) ≡ having s (swept test op n m) (latch test n a)
   unfolding sweep swept latch
-  would-sweep zero m a h = refl
-  would-sweep (suc n) m a h =
+  would_sweep zero m a h = refl
+  would_sweep (suc n) m a h =
       would_append (sweep test code n) (cond (test n) (at_unit code n) []) (having s m a)
-      ∙ ap (would (cond (test n) (at_unit code n) [])) (would-sweep n m a (omega arith))
-      ∙ would-last (test n) n (swept test op n m) (latch test n a) (omega arith)
+      ∙ ap (would (cond (test n) (at_unit code n) [])) (would_sweep n m a (omega arith))
+      ∙ would_last (test n) n (swept test op n m) (latch test n a) (omega arith)
 
-  always-last : (P : State → Type 0) (b : Bool) (n m : ℕ) (a : Arming) → n < 62 →
+  always_last : (P : State → Type 0) (b : Bool) (n m : ℕ) (a : Arming) → n < 62 →
       ((x : Arming) → P (having s m x)) → ((x : Arming) → P (having s (cond b (op n m) m) x)) →
       Always P (cond b (at_unit code n) []) (having s m a)
-  always-last P true n m a h p q =
-      (subst P (sym (arms s m a)) (p Stored), (subst P (sym (changed-on n m a h)) (q Disarmed), tt))
-  always-last P false n m a h p q = tt
+  always_last P true n m a h p q =
+      (subst P (sym (arms s m a)) (p Stored), (subst P (sym (changed_on n m a h)) (q Disarmed), tt))
+  always_last P false n m a h p q = tt
 
   -- What holds at the lock bits of every shorter sweep, under any arming, holds after each command.
-  pub always-sweep : (P : State → Type 0) (m : ℕ) →
+  pub always_sweep : (P : State → Type 0) (m : ℕ) →
       ((i : ℕ) → i ≤ 62 → (x : Arming) → P (having s (swept test op i m) x)) →
       (n : ℕ) (a : Arming) → n ≤ 62 → Always P (sweep test code n) (having s m a)
   unfolding sweep swept latch
-  always-sweep P m p zero a h = tt
-  always-sweep P m p (suc n) a h =
+  always_sweep P m p zero a h = tt
+  always_sweep P m p (suc n) a h =
       let l : n ≤ 62 = omega arith in
-      always_append P (sweep test code n) (cond (test n) (at_unit code n) []) (having s m a) (always-sweep P m p n a l)
-      (subst (λ (x : State). Always P (cond (test n) (at_unit code n) []) x) (sym (would-sweep n m a l))
-      (always-last P (test n) n (swept test op n m) (latch test n a) h (p n l) (p (suc n) h)))
+      always_append P (sweep test code n) (cond (test n) (at_unit code n) []) (having s m a) (always_sweep P m p n a l)
+      (subst (λ (x : State). Always P (cond (test n) (at_unit code n) []) x) (sym (would_sweep n m a l))
+      (always_last P (test n) n (swept test op n m) (latch test n a) h (p n l) (p (suc n) h)))
 
 module _ (test : ℕ → Bool) (op : ℕ → ℕ → ℕ) (x : ℕ) (sets : Sets op x) where
   beside : (b : Bool) (n v m : ℕ) → (n ≡ v → ⊥) → has (cond b (op n m) m) v ≡ has m v
   beside true n v m h = sets.other n v m h
   beside false n v m h = refl
 
-  swept-own : (n v m : ℕ) → n ≡ v → test n ≡ true → has (cond (test n) (op n m) m) v ≡ x
-  swept-own n v m e t =
+  swept_own : (n v m : ℕ) → n ≡ v → test n ≡ true → has (cond (test n) (op n m) m) v ≡ x
+  swept_own n v m e t =
       ap (λ (b : Bool). has (cond b (op n m) m) v) t ∙ ap (has (op n m)) (sym e) ∙ sets.own n m
 
   -- A unit that passes the test gets the value, once the sweep has come by.
-  pub swept-done : (n v m : ℕ) → v < n → test v ≡ true → has (swept test op n m) v ≡ x
+  pub swept_done : (n v m : ℕ) → v < n → test v ≡ true → has (swept test op n m) v ≡ x
   unfolding swept
-  swept-done zero v m h t = let z : ⊥ = omega arith in absurd z
-  swept-done (suc n) v m h t =
+  swept_done zero v m h t = let z : ⊥ = omega arith in absurd z
+  swept_done (suc n) v m h t =
       ⊎_elim
-      (λ (e : n ≡ v). swept-own n v (swept test op n m) e (ap test e ∙ t))
+      (λ (e : n ≡ v). swept_own n v (swept test op n m) e (ap test e ∙ t))
       (λ (e : n ≡ v → ⊥).
       let l : v < n = ⊎_elim (λ (k : v < n). k) (λ (k : n ≤ v). absurd (e (omega arith))) (cases_lt v n) in
-      beside (test n) n v (swept test op n m) e ∙ swept-done n v m l t)
+      beside (test n) n v (swept test op n m) e ∙ swept_done n v m l t)
       (cases_eq n v)
 
-  either-here : (b : Bool) (n v m : ℕ) → test n ≡ b → n ≡ v →
+  either_here : (b : Bool) (n v m : ℕ) → test n ≡ b → n ≡ v →
       (has (cond b (op n m) m) v ≡ has m v) ⊎ ((test v ≡ true) × (has (cond b (op n m) m) v ≡ x))
-  either-here true n v m t e = inr (ap test (sym e) ∙ t, ap (has (op n m)) (sym e) ∙ sets.own n m)
-  either-here false n v m t e = inl refl
+  either_here true n v m t e = inr (ap test (sym e) ∙ t, ap (has (op n m)) (sym e) ∙ sets.own n m)
+  either_here false n v m t e = inl refl
 
   -- A unit is as before, or it passed the test and has the value.
-  pub swept-either : (n v m : ℕ) →
+  pub swept_either : (n v m : ℕ) →
       (has (swept test op n m) v ≡ has m v) ⊎ ((test v ≡ true) × (has (swept test op n m) v ≡ x))
   unfolding swept
-  swept-either zero v m = inl refl
-  swept-either (suc n) v m =
+  swept_either zero v m = inl refl
+  swept_either (suc n) v m =
       ⊎_elim
       (λ (e : n ≡ v).
-      let ih = swept-either n v m in
+      let ih = swept_either n v m in
       ⊎_elim
       (λ (here : has (cond (test n) (op n (swept test op n m)) (swept test op n m)) v ≡ has (swept test op n m) v).
       ⊎_elim (λ (same : has (swept test op n m) v ≡ has m v). inl (here ∙ same)) (λ p. inr (p.0, here ∙ p.1)) ih)
       (λ p. inr p)
-      (either-here (test n) n v (swept test op n m) refl e))
+      (either_here (test n) n v (swept test op n m) refl e))
       (λ (e : n ≡ v → ⊥).
       let b = beside (test n) n v (swept test op n m) e in
       ⊎_elim
       (λ (same : has (swept test op n m) v ≡ has m v). inl (b ∙ same))
       (λ p. inr (p.0, b ∙ p.1))
-      (swept-either n v m))
+      (swept_either n v m))
       (cases_eq n v)
 
   -- A unit that fails the test is as before.
-  pub swept-left : (n v m : ℕ) → test v ≡ false → has (swept test op n m) v ≡ has m v
-  swept-left n v m t =
-      ⊎_elim (λ (e : has (swept test op n m) v ≡ has m v). e) (λ p. absurd (both_ways (test v) t p.0)) (swept-either n v m)
+  pub swept_left : (n v m : ℕ) → test v ≡ false → has (swept test op n m) v ≡ has m v
+  swept_left n v m t =
+      ⊎_elim (λ (e : has (swept test op n m) v ≡ has m v). e) (λ p. absurd (both_ways (test v) t p.0)) (swept_either n v m)
 
-  small-step : (b : Bool) (n m : ℕ) → n < 62 → m < 2 ^ 62 → cond b (op n m) m < 2 ^ 62
-  small-step true n m h l = sets.small n m h l
-  small-step false n m h l = l
+  small_step : (b : Bool) (n m : ℕ) → n < 62 → m < 2 ^ 62 → cond b (op n m) m < 2 ^ 62
+  small_step true n m h l = sets.small n m h l
+  small_step false n m h l = l
 
-  pub swept-small : (n m : ℕ) → n ≤ 62 → m < 2 ^ 62 → swept test op n m < 2 ^ 62
+  pub swept_small : (n m : ℕ) → n ≤ 62 → m < 2 ^ 62 → swept test op n m < 2 ^ 62
   unfolding swept
-  swept-small zero m h l = l
-  swept-small (suc n) m h l = small-step (test n) n (swept test op n m) h (swept-small n m (omega arith) l)
+  swept_small zero m h l = l
+  swept_small (suc n) m h l = small_step (test n) n (swept test op n m) h (swept_small n m (omega arith) l)

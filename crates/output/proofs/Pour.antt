@@ -16,12 +16,12 @@ record Flows (said : List ℕ) (room : ℕ) (ss : List (List ℕ)) (p : Paper) :
   within : length said ≤ room → length p.said ≤ room
   longer : length said ≤ length p.said
 
-flows-more :
+flows_more :
     (said : List ℕ) (room : ℕ) (t : List ℕ) (ss : List (List ℕ)) (fits : Bool) → leb (length said + length t) room ≡ fits →
     Flows (said ++ t) room ss (pour (said ++ t) room ss) →
     Flows said room (t ∷ ss) (cond fits (pour (said ++ t) room ss) (record { said = said; lost = t; full = true }))
 unfolding pour
-flows-more said room t ss true e g =
+flows_more said room t ss true e g =
     record {
       on = λ rest f. rw e (g.on rest f);
       stop = λ rest f. rw e (g.stop rest f);
@@ -29,7 +29,7 @@ flows-more said room t ss true e g =
       within = λ h. g.within (rw (length-append said t) (leb-true _ _ e));
       longer = omega (arith, g.longer, length-append said t);
     }
-flows-more said room t ss false e g =
+flows_more said room t ss false e g =
     record {
       on = λ rest f. absurd (both_ways true f refl);
       stop = λ rest f. rw e refl;
@@ -48,23 +48,23 @@ flows said room [] =
       within = λ h. h;
       longer = omega arith;
     }
-flows said room (t ∷ ss) = flows-more said room t ss (leb (length said + length t) room) refl (flows (said ++ t) room ss)
+flows said room (t ∷ ss) = flows_more said room t ss (leb (length said + length t) room) refl (flows (said ++ t) room ss)
 
 -- What is said fits the bytes, and is no shorter than what stood before the length.
 module _ (bytes : List ℕ) (len : ℕ) where
-  front-within : length (take len bytes) ≤ length bytes
-  front-within = omega (arith, length-take len bytes)
+  front_within : length (take len bytes) ≤ length bytes
+  front_within = omega (arith, length-take len bytes)
 
-  poured-within : (ts : List (List ℕ)) → length (poured ts bytes len).said ≤ length bytes
-  poured-within ts = (flows (take len bytes) (length bytes) ts).within front-within
+  poured_within : (ts : List (List ℕ)) → length (poured ts bytes len).said ≤ length bytes
+  poured_within ts = (flows (take len bytes) (length bytes) ts).within front_within
 
-  poured-longer : (ts : List (List ℕ)) → length (take len bytes) ≤ length (poured ts bytes len).said
-  poured-longer ts = (flows (take len bytes) (length bytes) ts).longer
+  poured_longer : (ts : List (List ℕ)) → length (take len bytes) ≤ length (poured ts bytes len).said
+  poured_longer ts = (flows (take len bytes) (length bytes) ts).longer
 
 -- The front of the bytes is what is said.
 pub poured_front : {full : Bool} {ts : List (List ℕ)} {b : List ℕ} {l : ℕ} {b' : List ℕ} {l' : ℕ} → Poured full ts b l b' l' → take l' b' ≡ (poured ts b l).said
 poured_front {full} {ts} {b} {l} p =
-    rw (p.all, p.long) (take_laid b (poured ts b l).said (poured ts b l).lost (poured-within b l ts))
+    rw (p.all, p.long) (take_laid b (poured ts b l).said (poured ts b l).lost (poured_within b l ts))
 
 pub poured_none : {b : List ℕ} {l : ℕ} → l ≤ length b → Poured false [] b l b l
 unfolding pour
@@ -122,10 +122,10 @@ onto_as {ts} {us} {vs} {b} {l} {h} {a} e o = subst (λ x. Onto ts b l x h a) e o
 onto_over : {ts rest : List (List ℕ)} {b : List ℕ} {l : ℕ} {h : List ℕ} {a : ℕ} (text : List ℕ) → Onto ts b l rest h a → length (take a h) ≤ length text → laid h 0 text ≡ laid b 0 text
 onto_over {ts} {rest} {b} {l} {h} {a} text o k = ap (λ x. laid x 0 text) o.lies ∙ laid_over b (take a h) text k
 
-pub onto-more :
+pub onto_more :
     {ts ss rest : List (List ℕ)} {b : List ℕ} {l : ℕ} {h : List ℕ} {a : ℕ} {h' : List ℕ} {a' : ℕ} →
     Poured false ss h a h' a' → Onto ts b l (ss ++ rest) h a → Onto ts b l rest h' a'
-onto-more {ts} {ss} {rest} {b} {l} {h} {a} {h'} {a'} p o =
+onto_more {ts} {ss} {rest} {b} {l} {h} {a} {h'} {a'} p o =
     let f = flows (take a h) (length h) ss in
     let said = (poured ss h a).said in
     let front : take a' h' ≡ said = poured_front p in
@@ -134,64 +134,64 @@ onto-more {ts} {ss} {rest} {b} {l} {h} {a} {h'} {a'} p o =
     record {
       same = rw (front, long) (sym (f.on rest p.ended) ∙ o.same);
       lies = rw front (whole ∙ onto_over said o f.longer);
-      within = omega (arith, p.long, poured-within h a ss);
+      within = omega (arith, p.long, poured_within h a ss);
     }
 
-pub onto-last :
+pub onto_last :
     {full : Bool} {ts rest : List (List ℕ)} {b : List ℕ} {l : ℕ} {h : List ℕ} {a : ℕ} {h' : List ℕ} {a' : ℕ} →
     Poured full rest h a h' a' → Onto ts b l rest h a → Poured full ts b l h' a'
-onto-last {full} {ts} {rest} {b} {l} {h} {a} p o =
+onto_last {full} {ts} {rest} {b} {l} {h} {a} p o =
     let said = (poured rest h a).said in
     let lost = (poured rest h a).lost in
-    let over = onto_over (said ++ lost) o (omega (arith, poured-longer h a rest, length-append said lost)) in
+    let over = onto_over (said ++ lost) o (omega (arith, poured_longer h a rest, length-append said lost)) in
     record {
       all = rw (← o.same) (p.all ∙ over);
       long = rw (← o.same) p.long;
       ended = rw (← o.same) p.ended;
     }
 
-pub onto-cut :
+pub onto_cut :
     {ts ss : List (List ℕ)} (rest : List (List ℕ)) {b : List ℕ} {l : ℕ} {h : List ℕ} {a : ℕ} {h' : List ℕ} {a' : ℕ} →
     Poured true ss h a h' a' → Onto ts b l (ss ++ rest) h a → Poured true ts b l h' a'
-onto-cut rest p o = onto-last (poured_stop rest p) o
+onto_cut rest p o = onto_last (poured_stop rest p) o
 
 pub onto_end : {ts : List (List ℕ)} {b : List ℕ} {l : ℕ} {h : List ℕ} {a : ℕ} → Onto ts b l [] h a → Poured false ts b l h a
-onto_end o = onto-last (poured_none o.within) o
+onto_end o = onto_last (poured_none o.within) o
 
 -- One line more, and one for which there was no room.
-pub onto-line :
+pub onto_line :
     {ts rest : List (List ℕ)} {t b : List ℕ} {l : ℕ} {h : List ℕ} {a : ℕ} {h' : List ℕ} {a' : ℕ} →
     Whole t h a h' a' → Onto ts b l (t ∷ rest) h a → Onto ts b l rest h' a'
-onto-line k o = onto-more (whole_poured k) o
+onto_line k o = onto_more (whole_poured k) o
 
-pub onto-back :
+pub onto_back :
     {ts rest : List (List ℕ)} {t b : List ℕ} {l : ℕ} {h : List ℕ} {a : ℕ} {h' : List ℕ} {a' : ℕ} →
     Back t h a h' a' → Onto ts b l (t ∷ rest) h a → Poured true ts b l h' a'
-onto-back {ts} {rest} k o = onto-cut rest (back_poured o.within k) o
+onto_back {ts} {rest} k o = onto_cut rest (back_poured o.within k) o
 
 -- What the exit of a `?` returns.
-pub pours-err :
+pub pours_err :
     {A : Type 0} {ts : List (List ℕ)} {b : List ℕ} {l : ℕ} {b' : List ℕ} {l' : ℕ} (r : Result A NoRoom) →
     is_err r ≡ true → Poured true ts b l b' l' → Pours ts r b l b' l'
-pours-err {A} {ts} {b} {l} {b'} {l'} r e p = MatchResult-from_err r (λ _. Poured false ts b l b' l') (λ _. Poured true ts b l b' l') e (λ _. p)
+pours_err {A} {ts} {b} {l} {b'} {l'} r e p = MatchResult-from_err r (λ _. Poured false ts b l b' l') (λ _. Poured true ts b l b' l') e (λ _. p)
 
-pub pours-as :
+pub pours_as :
     {A : Type 0} {ts us : List (List ℕ)} (r : Result A NoRoom) (b : List ℕ) (l : ℕ) (b' : List ℕ) (l' : ℕ) →
     ts ≡ us → Pours ts r b l b' l' → Pours us r b l b' l'
-pours-as r b l b' l' e p = subst (λ x. Pours x r b l b' l') e p
+pours_as r b l b' l' e p = subst (λ x. Pours x r b l b' l') e p
 
 -- The last answer is the answer.
-pub pours-last :
+pub pours_last :
     {A : Type 0} {ts rest : List (List ℕ)} {b : List ℕ} {l : ℕ} {h : List ℕ} {a : ℕ} (r : Result A NoRoom) (h' : List ℕ) (a' : ℕ) →
     Onto ts b l rest h a → Pours rest r h a h' a' → Pours ts r b l h' a'
-pours-last (Ok x) h' a' o p = onto-last p o
-pours-last (Err e) h' a' o p = onto-last p o
+pours_last (Ok x) h' a' o p = onto_last p o
+pours_last (Err e) h' a' o p = onto_last p o
 
-pub said-pours :
+pub said_pours :
     {A : Type 0} (t : List ℕ) (r : Result A NoRoom) (b : List ℕ) (l : ℕ) (b' : List ℕ) (l' : ℕ) →
     l ≤ length b → Said t r b l b' l' → Pours (t ∷ []) r b l b' l'
-said-pours t (Ok x) b l b' l' h k = whole_poured k
-said-pours t (Err e) b l b' l' h k = back_poured h k
+said_pours t (Ok x) b l b' l' h k = whole_poured k
+said_pours t (Err e) b l b' l' h k = back_poured h k
 
 -- All texts fit exactly where there is room for their bytes.
 record Sized (said : List ℕ) (room : ℕ) (ts : List (List ℕ)) (p : Paper) : Type 0 where
@@ -226,4 +226,4 @@ poured_over {ts} {b} {l} h p = omega (arith, (sized (take l b) (length b) ts).ov
 
 -- What stands fits the bytes.
 pub poured_in : {full : Bool} {ts : List (List ℕ)} {b : List ℕ} {l : ℕ} {b' : List ℕ} {l' : ℕ} → Poured full ts b l b' l' → l' ≤ length b
-poured_in {full} {ts} {b} {l} p = omega (arith, p.long, poured-within b l ts)
+poured_in {full} {ts} {b} {l} p = omega (arith, p.long, poured_within b l ts)

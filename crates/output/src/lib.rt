@@ -4,8 +4,8 @@
 
 #![tactic(auto)]
 
-ghost use Rattle.std.specs.Prelude.{◌≡◌, ◌/◌, ◌%◌, ◌^◌, ◌<◌, [], ◌∷◌, ◌++◌, decimal as decimal-text};
-ghost use Rattle.output.specs.Hex.{hex as hex-text, sign};
+ghost use Rattle.std.specs.Prelude.{◌≡◌, ◌/◌, ◌%◌, ◌^◌, ◌<◌, [], ◌∷◌, ◌++◌, decimal as decimal_text};
+ghost use Rattle.output.specs.Hex.{hex as hex_text, sign};
 ghost use Rattle.output.specs.Pour.{Said};
 ghost use Rattle.output.specs.Puts.{Puts};
 
@@ -75,7 +75,7 @@ impl<'a> Line<'a> {
 
     /// Writes the low hex digits of `n`, `width` of them.
     pub fn hex(&mut self, width: u32, n: u64) -> Result<(), NoRoom>
-        ensures { Puts (hex-text width n) result self.old self.new }
+        ensures { Puts (hex_text width n) result self.old self.new }
     {
         if *self.len > self.bytes.len() {
             return Err(NoRoom);
@@ -88,7 +88,7 @@ impl<'a> Line<'a> {
 
     /// Writes `n` in decimal, with no zero in front.
     pub fn decimal(&mut self, n: usize) -> Result<(), NoRoom>
-        ensures { Puts (decimal-text n) result self.old self.new }
+        ensures { Puts (decimal_text n) result self.old self.new }
     {
         if n < 10 {
             return self.put(b'0' + n as u8);

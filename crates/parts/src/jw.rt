@@ -3,7 +3,7 @@ ghost use Rattle.chip.specs.declared.model.Part.TheVariants.{Jw};
 ghost use Rattle.parts.specs.Start.{Startable, started, jw_state, JwBounded};
 ghost use Rattle.chip.specs.Effect.{Clear, lock_bits};
 ghost use Rattle.std.specs.Prelude.{◌≡◌, MatchOption, bit_and};
-ghost use Rattle.std.proofs.Common.{rules, arith};
+ghost use Rattle.std.proofs.Common.{rules};
 
 use crate::jw_memory::JwMemory;
 use chip::effect;
@@ -53,7 +53,7 @@ impl W25q16jw {
 impl Chip for W25q16jw {
     ghost state = { λ x. jw_state x.memory };
 
-    ghost sound = { first_of (Prim.search rules, Prim.grind (arith, Self.row.coded.inj)) };
+    ghost sound = { Prim.search rules };
 
     fn exchange(&mut self, e: Exchange) -> Answer {
         if self.memory.carry == 0 {

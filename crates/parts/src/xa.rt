@@ -2,7 +2,7 @@
 ghost use Rattle.chip.specs.declared.model.Part.TheVariants.{Xa};
 ghost use Rattle.parts.specs.Start.{Startable, started, xa_registers, xa_state, XaKept};
 ghost use Rattle.std.specs.Prelude.{◌≡◌, MatchOption};
-ghost use Rattle.std.proofs.Common.{rules, arith};
+ghost use Rattle.std.proofs.Common.{rules};
 
 use crate::xa_memory::XaMemory;
 use chip::interface::Chip;
@@ -38,7 +38,7 @@ impl W25x16a {
 impl Chip for W25x16a {
     ghost state = { λ x. xa_state x.memory };
 
-    ghost sound = { first_of (Prim.search rules, Prim.grind (arith, Self.row.coded.inj)) };
+    ghost sound = { Prim.search rules };
 
     fn exchange(&mut self, e: Exchange) -> Answer {
         if self.memory.carry == 0 {

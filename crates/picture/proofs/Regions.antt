@@ -11,8 +11,8 @@ use Rattle.picture.specs.Protection.{region, offers, protected, obeys, Judged}
 use Rattle.picture.specs.declared.array.ArrayCommand.{ArrayCommand}
 
 module _ (f : Face) (c : ArrayCommand) (a m : ℕ) (t : Touched (region c a) m) where
-  judged-by : offers f.part c ≡ true → (b : Bool) → eqb (bit_and m (protected f)) 0 ≡ b → Judged b f c a
-  judged-by o true e = (
+  judged_by : offers f.part c ≡ true → (b : Bool) → eqb (bit_and m (protected f)) 0 ≡ b → Judged b f c a
+  judged_by o true e = (
     o,
     λ b h.
         let u = unit_at b in
@@ -20,7 +20,7 @@ module _ (f : Face) (c : ArrayCommand) (a m : ℕ) (t : Touched (region c a) m) 
         let small = has_bit (protected f) u in
         omega arith,
   )
-  judged-by o false e =
+  judged_by o false e =
       let some : 0 < bit_and m (protected f) = omega (arith, eqb-false (bit_and m (protected f)) 0 e) in
       let both = has_both 62 m (protected f) t.small some in
       let byte = t.each_unit both.0 both.2 in
@@ -35,7 +35,7 @@ judged_offered f c a r m p e t w q o =
     let v = w ∙ ap touching e in (
       ap (λ x. eqb (bit_and x p) 0) v ∙ ap (λ x. eqb (bit_and (touching (region c a)) x) 0) q
           ∙ ap (λ x. x && eqb (bit_and (touching (region c a)) (protected f)) 0) (sym o),
-      subst (λ x. Judged (eqb (bit_and m x) 0) f c a) (sym q) (judged-by f c a m u o (eqb (bit_and m (protected f)) 0) refl),
+      subst (λ x. Judged (eqb (bit_and m x) 0) f c a) (sym q) (judged_by f c a m u o (eqb (bit_and m (protected f)) 0) refl),
     )
 
 -- The part lacks it.

@@ -117,11 +117,11 @@ numbered n a b = ap (λ x. x && leb n 13) (le-leb 11 n a) ∙ le-leb n 13 b
 -- What was sent is not out of reach, and done only where all was carried.
 sent_out : (cs : List Command) (o : Result (Unit {0}) Sent) → out_of_reach (counted cs o) ≡ false
 sent_out cs (Ok u) = refl
-sent_out cs (Err s) = cable-out s.fault s.carried
+sent_out cs (Err s) = cable_out s.fault s.carried
   where
-    cable-out : (f : CableFault) (n : ℕ) → out_of_reach (Err (Cable f n)) ≡ false
-    cable-out Down n = refl
-    cable-out Busy n = refl
+    cable_out : (f : CableFault) (n : ℕ) → out_of_reach (Err (Cable f n)) ≡ false
+    cable_out Down n = refl
+    cable_out Busy n = refl
 
 sent_ok : (cs : List Command) (n : ℕ) (o : Result (Unit {0}) Sent) → counted cs o ≡ Ok n → o ≡ Ok tt
 sent_ok cs n (Ok tt) e = refl
@@ -153,15 +153,15 @@ module _ (v : View) (x : Reading) (step : InStep v) (seen : v.picture ≡ Some x
       subst (λ f. Unreachable f set t) (sym same) u cs good.met
 
   -- The picture shows the chip again, however the wish ended.
-  faced-after : (set : ℕ) (t : Term) (plan : Result (List Command) RunFault) → set < 2 ^ 62 → Found x set t plan →
+  faced_after : (set : ℕ) (t : Term) (plan : Result (List Command) RunFault) → set < 2 ^ 62 → Found x set t plan →
       (y : Reading) → (left_by plan (Some x) v).picture ≡ Some y → y.face ≡ (left_by plan (Some x) v).state.face
-  faced-after set t (Err f) h k y q = (step.shown y q).face
-  faced-after set t (Ok cs) h k y q = ap (λ r. r.face) (sym (some_same q)) ∙ (sent set t cs h k.0 k.1).shown
+  faced_after set t (Err f) h k y q = (step.shown y q).face
+  faced_after set t (Ok cs) h k y q = ap (λ r. r.face) (sym (some_same q)) ∙ (sent set t cs h k.0 k.1).shown
 
   -- What the wish is good for: where it has no plan, and where it is sent.
-  refused-good : (set : ℕ) (t : Term) (f : RunFault) → set < 2 ^ 62 → suspended x.face ≡ false → Why x set t f → Good set t (Err f) [] v.state v.state
-  refused-good set t f h c (inl e) = absurd (both_ways (suspended x.face) c e)
-  refused-good set t f h c (inr (inl e)) =
+  refused_good : (set : ℕ) (t : Term) (f : RunFault) → set < 2 ^ 62 → suspended x.face ≡ false → Why x set t f → Good set t (Err f) [] v.state v.state
+  refused_good set t f h c (inl e) = absurd (both_ways (suspended x.face) c e)
+  refused_good set t f h c (inr (inl e)) =
       let out = planned_number x.face set t f e in
       record {
         refused = λ _. subst (λ g. Unreachable g set t) same (subst (λ p. Verdict p x.face set t) e (verdict set t h c));
@@ -170,7 +170,7 @@ module _ (v : View) (x : Reading) (step : InStep v) (seen : v.picture ≡ Some x
         held = tt;
         met = λ n q. let z : ◌≡◌ {A = ℕ} 0 1 = cc in let m : ⊥ = omega arith in elim m [ ];
       }
-  refused-good set t f h c (inr (inr (e, (cs, k)))) =
+  refused_good set t f h c (inr (inr (e, (cs, k)))) =
       record {
         refused = λ q. absurd (both_ways false refl (ap (λ g. out_of_reach (Err g)) (sym e) ∙ q));
         unreachable = λ u. absurd (met_by set t cs h c k u);
@@ -179,9 +179,9 @@ module _ (v : View) (x : Reading) (step : InStep v) (seen : v.picture ≡ Some x
         met = λ n q. let z : ◌≡◌ {A = ℕ} 0 1 = cc in let m : ⊥ = omega arith in elim m [ ];
       }
 
-  sent-good : (set : ℕ) (t : Term) (cs : List Command) → set < 2 ^ 62 → suspended x.face ≡ false → planned x.face set t ≡ Ok cs →
+  sent_good : (set : ℕ) (t : Term) (cs : List Command) → set < 2 ^ 62 → suspended x.face ≡ false → planned x.face set t ≡ Ok cs →
       Good set t (counted cs (sent_from cs v x).0) (exchanges cs (record { state = v.state; reading = x })) v.state (sent_from cs v x).1.state
-  sent-good set t cs h c e =
+  sent_good set t cs h c e =
       let a = sent set t cs h c e in
       record {
         refused = λ q. absurd (both_ways (out_of_reach (counted cs (sent_from cs v x).0)) (sent_out cs (sent_from cs v x).0) q);
@@ -193,8 +193,8 @@ module _ (v : View) (x : Reading) (step : InStep v) (seen : v.picture ≡ Some x
 
   pub good : (set : ℕ) (t : Term) (plan : Result (List Command) RunFault) → set < 2 ^ 62 → suspended x.face ≡ false → Found x set t plan →
       Good set t (answered_by plan (Some x) v) (exchanges_in plan (Some x) v.state) v.state (left_by plan (Some x) v).state
-  good set t (Err f) h c k = refused-good set t f h c k
-  good set t (Ok cs) h c k = sent-good set t cs h c k.1
+  good set t (Err f) h c k = refused_good set t f h c k
+  good set t (Ok cs) h c k = sent_good set t cs h c k.1
 
 -- Every plan of a session in step is refused, or found from its picture for some set of units.
 abbrev pub Comes : Result (List Command) RunFault → View → Type 0
@@ -256,7 +256,7 @@ comes_faced plan v h (inl (f, e)) y q =
     (s.face ∙ ap (λ u. u.state.face) (sym a), s.known)
 comes_faced plan v h (inr (x, (e, (set, (t, (l, k)))))) y q =
     let a : after_wish plan v ≡ left_by plan (Some x) v = ap (λ p. left_by plan p v) e in
-    (faced-after v x h e set t plan l k y (ap (λ u. u.picture) (sym a) ∙ q) ∙ ap (λ u. u.state.face) (sym a), (h.shown x e).known)
+    (faced_after v x h e set t plan l k y (ap (λ u. u.picture) (sym a) ∙ q) ∙ ap (λ u. u.state.face) (sym a), (h.shown x e).known)
 
 -- After a wish: chip and picture are as it leaves them, whether a lift is out or not.
 pub record As (w u : View) : Type 0 where
@@ -309,11 +309,11 @@ step_in (restores session set slots r slots') v w h k =
     let c = restore_comes session set (length slots) v k.effect.0 in
     wish_in_step plan v w h c k.sound k.part
     (as_done (wish_answer plan v) false w (after_wish plan v) (k.effect.1.after (comes_meant plan v h c)))
-step_in (writes_off session set r) v w h k = off-in-step (eqb session v.number) v w h k.effect.1
+step_in (writes_off session set r) v w h k = off_in_step (eqb session v.number) v w h k.effect.1
   where
-    off-in-step : (b : Bool) (v w : View) → InStep v → w ≡ cond b (with_lifted false v) v → InStep w
-    off-in-step true v w h e = subst InStep (sym e) (record { sound = h.sound; shown = h.shown })
-    off-in-step false v w h e = subst InStep (sym e) h
+    off_in_step : (b : Bool) (v w : View) → InStep v → w ≡ cond b (with_lifted false v) v → InStep w
+    off_in_step true v w h e = subst InStep (sym e) (record { sound = h.sound; shown = h.shown })
+    off_in_step false v w h e = subst InStep (sym e) h
 
 pub ran_in : (cs : List Call) (v w : View) → InStep v → Ran cs v w → InStep w
 ran_in [] v w h r = subst InStep (sym r) h

@@ -6,7 +6,7 @@ use Rattle.chip.specs.declared.model.Command.{Command}
 use Rattle.output.specs.Hex.{hex}
 use Rattle.output.specs.Pour.{Said, Pours, total}
 use Rattle.output.specs.declared.NoRoom.{NoRoom}
-use Rattle.output.proofs.Pour.{pours-as, said-pours}
+use Rattle.output.proofs.Pour.{pours_as, said_pours}
 use Rattle.sheet.specs.Answers.{seen_text, no_text, byte_text, bytes_text, send_text, done_text, done_texts}
 use Rattle.std.proofs.lemmas.Fmt.{length-decimal-le}
 use Rattle.std.proofs.lemmas.List.{at_drop_more, at_drop_all, length-take-le}
@@ -90,7 +90,7 @@ one_short t h = omega (arith, h)
 pub says_one : {A : Type 0} (ts : List (List ℕ)) (t : List ℕ) (r : Result A NoRoom) (b : List ℕ) (l : ℕ) (b' : List ℕ) (l' : ℕ) →
     ts ≡ t ∷ [] → length t ≤ 28 → l ≤ length b → Said t r b l b' l' → Says ts r b l b' l'
 says_one ts t r b l b' l' e h k s =
-    record { text = pours-as r b l b' l' (sym e) (said-pours t r b l b' l' k s); short = subst (λ x. total x ≤ 2151) (sym e) (one_short t h) }
+    record { text = pours_as r b l b' l' (sym e) (said_pours t r b l b' l' k s); short = subst (λ x. total x ≤ 2151) (sym e) (one_short t h) }
 
 pub says_done : {A : Type 0} (ts : List (List ℕ)) (slots : List Command) (n : ℕ) (cs : List Command) (r : Result A NoRoom) (b : List ℕ) (l : ℕ) (b' : List ℕ) (l' : ℕ) →
     ts ≡ done_texts (take n slots) n → n ≤ length slots → n ≤ 126 → cs ≡ take n slots → Pours (done_texts cs (length cs)) r b l b' l' →
@@ -99,6 +99,6 @@ says_done ts slots n cs r b l b' l' e h k p s =
     let long : length cs ≡ n = ap length p ∙ length-take-le n slots h in
     let same : done_texts cs (length cs) ≡ ts = ap (done_texts cs) long ∙ ap (λ x. done_texts x n) p ∙ sym e in
     record {
-      text = pours-as r b l b' l' same s;
+      text = pours_as r b l b' l' same s;
       short = subst (λ x. total x ≤ 2151) same (omega (arith, done_short cs (length cs) (omega (arith, long, k)), long, k));
     }

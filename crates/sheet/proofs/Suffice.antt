@@ -130,11 +130,11 @@ alone_below u x h = made (λ _. x) (none_below u.fields u.size) (λ _ _. h)
 
 -- A reach record has eight ranges at the most.
 at_most_below : (u : Unread) → Says (λ _. length u.fields ≤ 8) (at_most 8 u)
-at_most_below u = by-test (leb (length u.fields) 8) refl
+at_most_below u = by_test (leb (length u.fields) 8) refl
   where
-    by-test : (b : Bool) → leb (length u.fields) 8 ≡ b → Says (λ _. length u.fields ≤ 8) (cond b (Ok (tt {0})) (Err (Count u.size)))
-    by-test true e = good (leb-true (length u.fields) 8 e)
-    by-test false e = no (omega arith)
+    by_test : (b : Bool) → leb (length u.fields) 8 ≡ b → Says (λ _. length u.fields ≤ 8) (cond b (Ok (tt {0})) (Err (Count u.size)))
+    by_test true e = good (leb-true (length u.fields) 8 e)
+    by_test false e = no (omega arith)
 
 abbrev Short : RecordText → Type 0
 Short (a_chip f) = Unit {0}
@@ -269,11 +269,11 @@ cable_below Down = omega arith
 cable_below Busy = omega arith
 
 planned_below : (f : Face) (w : ℕ) (t : Term) → Runs (λ cs. length cs ≤ 126) (planned f w t)
-planned_below f w t = by-plan (planned f w t) refl
+planned_below f w t = by_plan (planned f w t) refl
   where
-    by-plan : (r : Result (List Command) RunFault) → planned f w t ≡ r → Runs (λ cs. length cs ≤ 126) r
-    by-plan (Ok cs) e = good (planned_short f w t cs e)
-    by-plan (Err x) e = no (omega (arith, (planned_number f w t x e).1))
+    by_plan : (r : Result (List Command) RunFault) → planned f w t ≡ r → Runs (λ cs. length cs ≤ 126) r
+    by_plan (Ok cs) e = good (planned_short f w t cs e)
+    by_plan (Err x) e = no (omega (arith, (planned_number f w t x e).1))
 
 ranged_below : (r : Result ℕ RangeFault) → Runs Any (ranged r)
 ranged_below (Ok w) = good tt

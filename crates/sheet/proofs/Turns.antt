@@ -97,8 +97,8 @@ module _ (input out out' : List ℕ) (len : ℕ) (rs : List Range) (cs : List Co
   abbrev all : List (List ℕ)
   all = answers (fresh rs cs) 0 (lines input)
 
-  pub ends-whole : Poured false all out 0 out' len → Ends (Ok len) input out out' rs cs
-  ends-whole p =
+  pub ends_whole : Poured false all out 0 out' len → Ends (Ok len) input out out' rs cs
+  ends_whole p =
       ends_from (Ok len) input out out' rs cs (poured all out 0) (filled input (length out) rs cs places)
       (record {
         ends = ap Ok p.long ∙ sym (finish_by false (poured all out 0) p.ended);
@@ -106,8 +106,8 @@ module _ (input out out' : List ℕ) (len : ℕ) (rs : List Range) (cs : List Co
         front = ap (λ n. take n out') (sym p.long) ∙ poured_front p;
       })
 
-  pub ends-short : Poured true all out 0 out' len → Ends (Err (record { kept = len; fault = Room })) input out out' rs cs
-  ends-short p =
+  pub ends_short : Poured true all out 0 out' len → Ends (Err (record { kept = len; fault = Room })) input out out' rs cs
+  ends_short p =
       ends_from (Err (record { kept = len; fault = Room })) input out out' rs cs (poured all out 0) (filled input (length out) rs cs places)
       (record {
         ends = ap (λ n. Err (record { kept = n; fault = Room })) p.long ∙ sym (finish_by true (poured all out 0) p.ended);

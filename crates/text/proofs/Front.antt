@@ -10,14 +10,14 @@ abbrev pub Passed : (ℕ → Bool) → List ℕ → ℕ → Type 0
 Passed p xs i = i + prefix_len p (drop i xs) ≡ prefix_len p xs
 
 module _ (p : ℕ → Bool) (xs : List ℕ) (i : ℕ) where
-  pub passed-more : Passed p xs i → i < length xs → p (get_or xs i 0) ≡ true → Passed p xs (i + 1)
-  passed-more e h y = omega (arith, prefix_len-drop_yes p xs i 0 h y)
+  pub passed_more : Passed p xs i → i < length xs → p (get_or xs i 0) ≡ true → Passed p xs (i + 1)
+  passed_more e h y = omega (arith, prefix_len-drop_yes p xs i 0 h y)
 
-  pub passed-stop : Passed p xs i → i < length xs → p (get_or xs i 0) ≡ false → i ≡ prefix_len p xs
-  passed-stop e h n = omega (arith, prefix_len-drop_no p xs i 0 h n)
+  pub passed_stop : Passed p xs i → i < length xs → p (get_or xs i 0) ≡ false → i ≡ prefix_len p xs
+  passed_stop e h n = omega (arith, prefix_len-drop_no p xs i 0 h n)
 
-  pub passed-all : Passed p xs i → length xs ≤ i → i ≡ prefix_len p xs
-  passed-all e h = omega (arith, prefix_len-drop_all p xs i h)
+  pub passed_all : Passed p xs i → length xs ≤ i → i ≡ prefix_len p xs
+  passed_all e h = omega (arith, prefix_len-drop_all p xs i h)
 
 -- What the tests of the code say of the byte.
 pub other_no : (mark b : ℕ) → b ≡ mark → other mark b ≡ false

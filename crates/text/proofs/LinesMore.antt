@@ -37,11 +37,11 @@ rest_shorter text rest r h = omega (arith, ap length r, length-drop (prefix_len 
 few_by : (t : Bool) (b : ℕ) (bs : List ℕ) → length (lines bs) ≤ length bs → length (cond t ([] ∷ lines bs) (before b (lines bs))) ≤ length (b ∷ bs)
 unfolding lines
 few_by true b bs h = omega arith
-few_by false b bs h = few-before b (lines bs) (length bs) h
+few_by false b bs h = few_before b (lines bs) (length bs) h
   where
-    few-before : (b : ℕ) (ls : List (List ℕ)) (n : ℕ) → length ls ≤ n → length (before b ls) ≤ suc n
-    few-before b [] n h = omega arith
-    few-before b (l ∷ ls) n h = omega arith
+    few_before : (b : ℕ) (ls : List (List ℕ)) (n : ℕ) → length ls ≤ n → length (before b ls) ≤ suc n
+    few_before b [] n h = omega arith
+    few_before b (l ∷ ls) n h = omega arith
 
 pub lines_few : (text : List ℕ) → length (lines text) ≤ length text
 unfolding lines

@@ -80,8 +80,8 @@ module _ (line rest : List ℕ) (at n : ℕ) (r : rest ≡ drop at line) (e : n 
       let a : at + (n + 1) ≡ at + n + 1 = omega arith in
       cc
 
-  pub cut-last : length rest ≤ n → parts at (drop at line) ≡ first_of n at rest ∷ []
-  cut-last h =
+  pub cut_last : length rest ≤ n → parts at (drop at line) ≡ first_of n at rest ∷ []
+  cut_last h =
       let none : length rest ≤ prefix_len (other 9) rest = omega arith in
       let m = parts_last at rest none in
       cc

@@ -11,16 +11,16 @@ module _ (base : ℕ) (value : ℕ → Option ℕ) (sum at : ℕ) (xs : List ℕ
   unfolding read
   step h = at_drop_more (read base value sum at) xs i 0 h
 
-  read-wrong : i < length xs → value (get_or xs i 0) ≡ None → read base value sum at (drop i xs) ≡ misread at
-  read-wrong h e = step h ∙ ap (λ o. with_digit o at (λ d. read base value (base * sum + d) (at + 1) (drop (i + 1) xs))) e
+  read_wrong : i < length xs → value (get_or xs i 0) ≡ None → read base value sum at (drop i xs) ≡ misread at
+  read_wrong h e = step h ∙ ap (λ o. with_digit o at (λ d. read base value (base * sum + d) (at + 1) (drop (i + 1) xs))) e
 
   read_more : (d : ℕ) → i < length xs → value (get_or xs i 0) ≡ Some d
       → read base value sum at (drop i xs) ≡ read base value (base * sum + d) (at + 1) (drop (i + 1) xs)
   read_more d h e = step h ∙ ap (λ o. with_digit o at (λ d. read base value (base * sum + d) (at + 1) (drop (i + 1) xs))) e
 
-  read-end : length xs ≤ i → read base value sum at (drop i xs) ≡ Ok sum
+  read_end : length xs ≤ i → read base value sum at (drop i xs) ≡ Ok sum
   unfolding read
-  read-end h = at_drop_all (read base value sum at) xs i h
+  read_end h = at_drop_all (read base value sum at) xs i h
 
 -- The digits before the place i of a text told `sum`, and the rest goes on from there.
 pub record SoFar (base : ℕ) (value : ℕ → Option ℕ) (at : ℕ) (xs : List ℕ) (sum i : ℕ) : Type 0 where
@@ -35,8 +35,8 @@ grows base s i h =
     omega (arith, mul-add base s 1)
 
 module _ (base : ℕ) (value : ℕ → Option ℕ) (at : ℕ) (xs : List ℕ) (sum i : ℕ) (so_far : SoFar base value at xs sum i) where
-  pub sum-under : (most : ℕ) → 0 < base → i ≤ most → sum < base ^ most
-  sum-under most b k = omega (arith, so_far.small, pow-le-pow_right {n = base} b {i = i} {j = most} k)
+  pub sum_under : (most : ℕ) → 0 < base → i ≤ most → sum < base ^ most
+  sum_under most b k = omega (arith, so_far.small, pow-le-pow_right {n = base} b {i = i} {j = most} k)
 
   -- A number of fewer digits than `most` has room for one more.
   pub sum_room : (most : ℕ) → 0 < base → i < most → base * sum + base ≤ base ^ most
@@ -45,8 +45,8 @@ module _ (base : ℕ) (value : ℕ → Option ℕ) (at : ℕ) (xs : List ℕ) (s
       omega (arith, grows base sum i so_far.small, pow-le-pow_right {n = base} b {i = i + 1} {j = most} w)
 
   -- `o` is what the code made of the byte at i.
-  pub sum-wrong : (o : Option ℕ) → i < length xs → o ≡ value (get_or xs i 0) → o ≡ None → misread (at + i) ≡ read base value 0 at xs
-  sum-wrong o h v none = sym (read-wrong base value sum (at + i) xs i h (sym v ∙ none)) ∙ so_far.same
+  pub sum_wrong : (o : Option ℕ) → i < length xs → o ≡ value (get_or xs i 0) → o ≡ None → misread (at + i) ≡ read base value 0 at xs
+  sum_wrong o h v none = sym (read_wrong base value sum (at + i) xs i h (sym v ∙ none)) ∙ so_far.same
 
   pub sum_more : (o : Option ℕ) (d : ℕ) → i < length xs → o ≡ value (get_or xs i 0) → o ≡ Some d → d < base
       → SoFar base value at xs (base * sum + d) (i + 1)
@@ -59,5 +59,5 @@ module _ (base : ℕ) (value : ℕ → Option ℕ) (at : ℕ) (xs : List ℕ) (s
             ∙ so_far.same;
       }
 
-  pub sum-end : length xs ≤ i → Ok sum ≡ read base value 0 at xs
-  sum-end h = sym (read-end base value sum (at + i) xs i h) ∙ so_far.same
+  pub sum_end : length xs ≤ i → Ok sum ≡ read base value 0 at xs
+  sum_end h = sym (read_end base value sum (at + i) xs i h) ∙ so_far.same

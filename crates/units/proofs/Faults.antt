@@ -24,8 +24,8 @@ module _ (test : Range → Bool) (rs : List Range) (i : ℕ) (so_far : Passed te
       let e : prefix_len test rs ≡ i = omega (arith, prefix_len-drop_no test rs i blank h t) in
       cond-true _ _ _ (lt-ltb (prefix_len test rs) (length rs) (omega arith)) ∙ ap Some e
 
-  pub none-fails : length rs ≤ i → first_failing test rs ≡ None
-  none-fails h = cond-false _ _ _ (le-ltb (prefix_len test rs) (length rs) (omega arith))
+  pub none_fails : length rs ≤ i → first_failing test rs ≡ None
+  none_fails h = cond-false _ _ _ (le-ltb (prefix_len test rs) (length rs) (omega arith))
 
 -- What a value that stands under a test says of the test.
 pub some_told : {X : Type 0} (b : Bool) (x y : X) → Some y ≡ cond b (Some x) None → (b ≡ true) × (y ≡ x)

@@ -20,8 +20,8 @@ module _ (r : Range) (low high : ℕ) (l : low ≡ unit_at r.first) (h : high �
       let p = inside_parts r i in
       (omega (arith, unit_mono r.first r.last p.0), omega (arith, unit_small r.last p.1))
 
-  pub shifted-order : (1 * 2 ^ low) % 2 ^ 64 ≤ (2 * 2 ^ high) % 2 ^ 64
-  shifted-order =
+  pub shifted_order : (1 * 2 ^ low) % 2 ^ 64 ≤ (2 * 2 ^ high) % 2 ^ 64
+  shifted_order =
       let o = order in
       rw (shl_whole 2 2 high 64 (omega arith) (omega arith), one_shl low 64 (omega arith)) (omega (arith, pow_mono o.0))
 

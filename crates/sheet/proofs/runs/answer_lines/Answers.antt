@@ -1,6 +1,6 @@
 use Rattle.std.proofs.Common.{◌≡◌, ℕ, ◌+◌, ◌*◌, ◌%◌, ◌<◌, ◌≤◌, true, List, [], length, take, sym, refl, ap, ◌∙◌, subst, arith, rules}
 use Rattle.output.specs.Pour.{total}
-use Rattle.output.proofs.Pour.{Onto, onto, onto_as, onto-more, onto-cut, onto_end, poured_fits, poured_over, pours-err}
+use Rattle.output.proofs.Pour.{Onto, onto, onto_as, onto_more, onto_cut, onto_end, poured_fits, poured_over, pours_err}
 use Rattle.sheet.specs.Answers.{Counted, answer_texts}
 use Rattle.sheet.specs.Bench.{desk, told, next}
 use Rattle.sheet.specs.Reaching.{Desk}
@@ -47,8 +47,8 @@ returns-in_err-say c =
     let rest = answers e ((c.loop-rest.number + 1) % 65536) (lines c.split_line-split.result.rest.now) in
     record {
       poured =
-          pours-err c.from_residual.result c.from_residual.ensures.0
-          (onto-cut rest {h' = c.say.new.bytes} {a' = c.say.new.len} cut (onto_as t.more c.loop-rest.invariant.0));
+          pours_err c.from_residual.result c.from_residual.ensures.0
+          (onto_cut rest {h' = c.say.new.bytes} {a' = c.say.new.len} cut (onto_as t.more c.loop-rest.invariant.0));
       places =
           lent b e (c.loop-rest.invariant.1.0
           ∙ bench_last (length c.args.out.now) c.loop-rest.out c.say.new.bytes c.loop-rest.len c.say.new.len room t cut);
@@ -68,7 +68,7 @@ loop-rest-preserved c =
     let more = ap length (c.split_line-split.ensures.all c.loop-rest-test.true) in
     let room : length c.args.out.now ≡ length c.loop-rest.out = omega (arith, c.loop-rest.auto.out) in
     let long = poured_fits c.loop-rest.invariant.0.within all in (
-      onto-more {h' = c.say.new.bytes} {a' = c.say.new.len} all (onto_as t.more c.loop-rest.invariant.0),
+      onto_more {h' = c.say.new.bytes} {a' = c.say.new.len} all (onto_as t.more c.loop-rest.invariant.0),
       (
         c.loop-rest.invariant.1.0
             ∙ bench_on (length c.args.out.now) c.loop-rest.out c.say.new.bytes c.loop-rest.len c.say.new.len room t all,

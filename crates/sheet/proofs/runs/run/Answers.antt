@@ -3,7 +3,7 @@ use Rattle.output.proofs.Pour.{poured_in}
 use Rattle.std.proofs.lemmas.Bool.{both_ways}
 use Rattle.sheet.specs.Sheet.{enough}
 use Rattle.sheet.proofs.Suffice.{places_suffice}
-use Rattle.sheet.proofs.Turns.{ends-whole, ends-short, ends_none, lent_none, lent_some}
+use Rattle.sheet.proofs.Turns.{ends_whole, ends_short, ends_none, lent_none, lent_some}
 use Rattle.sheet.proofs.runs.run.Goals as goal
 
 pub returns-then-ranges-lt-RANGE_PLACES : goal.returns-then-ranges-lt-RANGE_PLACES
@@ -25,7 +25,7 @@ returns-in-Ok c =
     let places : enough c.args.ranges.now c.args.commands.now ≡ true = search rules in
     let done = c.in-Ok.ensures in
     let e =
-    ends-whole c.args.input.now c.args.out.now c.answer_lines.new.out c.answer_lines.new.len c.args.ranges.now
+    ends_whole c.args.input.now c.args.out.now c.answer_lines.new.out c.answer_lines.new.len c.args.ranges.now
     c.args.commands.now places done.poured
     in
     record {
@@ -43,7 +43,7 @@ returns-in-Err c =
     let places : enough c.args.ranges.now c.args.commands.now ≡ true = search rules in
     let cut = c.in-Err.ensures in
     let e =
-    ends-short c.args.input.now c.args.out.now c.answer_lines.new.out c.answer_lines.new.len c.args.ranges.now
+    ends_short c.args.input.now c.args.out.now c.answer_lines.new.out c.answer_lines.new.len c.args.ranges.now
     c.args.commands.now places cut.poured
     in
     record {

@@ -1,4 +1,4 @@
-use Rattle.text.proofs.PartsMore.{cut_more, cut-last}
+use Rattle.text.proofs.PartsMore.{cut_more, cut_last}
 use Rattle.text.proofs.fields.cut.Goals as goal
 use Rattle.std.proofs.Common.{◌≡◌, ◌-◌, length, ap, ◌∙◌, arith, length-drop}
 
@@ -18,4 +18,4 @@ returns-then-width-rest c =
 
 pub returns-else-width-rest : goal.returns-else-width-rest
 returns-else-width-rest c =
-    cut-last c.args.line.now _ c.args.at _ c.skip-rest.ensures c.up_to-width.ensures.count c.if-width-rest.false
+    cut_last c.args.line.now _ c.args.at _ c.skip-rest.ensures c.up_to-width.ensures.count c.if-width-rest.false

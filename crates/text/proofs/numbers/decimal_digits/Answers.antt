@@ -1,6 +1,6 @@
 use Rattle.std.proofs.Common.{◌+◌, ◌*◌, ◌^◌, ◌≤◌, Err, ap, ◌∙◌, arith}
 use Rattle.refusals.specs.declared.SheetFault.TheVariants.{Field}
-use Rattle.text.proofs.ReadMore.{sum-under, sum_room, sum-wrong, sum_more, sum-end}
+use Rattle.text.proofs.ReadMore.{sum_under, sum_room, sum_wrong, sum_more, sum_end}
 use Rattle.text.proofs.numbers.decimal_digits.Goals as goal
 
 space : (c : goal.In-Some) → 10 * c.loop-i.sum + 10 ≤ 10 ^ 9
@@ -8,7 +8,7 @@ space c = sum_room _ _ _ _ _ _ c.loop-i.invariant 9 (omega arith) (omega arith)
 
 pub returns-in_default : goal.returns-in_default
 returns-in_default c =
-    let wrong = sum-wrong _ _ _ _ _ _ c.loop-i.invariant _ c.loop-i-test.true c.decimal_digit.ensures.value c.in_default.is in
+    let wrong = sum_wrong _ _ _ _ _ _ c.loop-i.invariant _ c.loop-i-test.true c.decimal_digit.ensures.value c.in_default.is in
     record { value = ap (λ k. Err (Field k)) c.saturating_add.ensures ∙ wrong; small = tt }
 
 pub overflow_mul-sum : goal.overflow_mul-sum
@@ -24,6 +24,6 @@ loop-i-preserved c =
 pub returns : goal.returns
 returns c =
     record {
-      value = sum-end _ _ _ _ _ _ c.loop-i.invariant c.loop-i-test.false;
-      small = sum-under _ _ _ _ _ _ c.loop-i.invariant 9 (omega arith) (omega arith);
+      value = sum_end _ _ _ _ _ _ c.loop-i.invariant c.loop-i-test.false;
+      small = sum_under _ _ _ _ _ _ c.loop-i.invariant 9 (omega arith) (omega arith);
     }

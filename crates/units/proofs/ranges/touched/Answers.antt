@@ -3,7 +3,7 @@ use Rattle.std.proofs.Common.{Some, sym, ap, ◌∙◌, subst, arith, le-leb}
 use Rattle.std.proofs.lemmas.Bool.{and_from, cond-true}
 use Rattle.units.specs.Ranges.{Touched, inside}
 use Rattle.units.proofs.Faults.{some_told}
-use Rattle.units.proofs.Touch.{shifted, shifted-order, touching_right}
+use Rattle.units.proofs.Touch.{shifted, shifted_order, touching_right}
 use Rattle.units.proofs.ranges.touched.Goals as goal
 
 pub overflow_sub-result : goal.overflow_sub-result
@@ -11,7 +11,7 @@ overflow_sub-result c =
     let r = c.args.range in
     let low = some_told _ _ _ c.in_ok-low.ensures.value in
     let high = some_told _ _ _ c.in_ok-high.ensures.value in
-    shifted-order r _ _ low.1 high.1 (and_from _ _ (le-leb r.first r.last (omega arith)) high.0)
+    shifted_order r _ _ low.1 high.1 (and_from _ _ (le-leb r.first r.last (omega arith)) high.0)
 
 pub returns : goal.returns
 returns c =

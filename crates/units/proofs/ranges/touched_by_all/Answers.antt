@@ -4,7 +4,7 @@ use lib.Bits.{bit_or}
 use Rattle.std.proofs.lemmas.List.{at_drop_more, at_drop_all}
 use Rattle.units.specs.Ranges.{inside, plus, union, unless}
 use Rattle.units.specs.declared.ranges.RangeFault.TheVariants.{Beyond}
-use Rattle.units.proofs.Faults.{blank, fails, none-fails, none_told, passes, some_told}
+use Rattle.units.proofs.Faults.{blank, fails, none_fails, none_told, passes, some_told}
 use Rattle.units.proofs.ranges.touched_by_all.Goals as goal
 
 pub returns-in_default : goal.returns-in_default
@@ -28,6 +28,6 @@ loop-at-preserved c =
 pub returns : goal.returns
 returns c =
     let rs = c.args.ranges.now in
-    let f = none-fails inside rs c.loop-at.at c.loop-at.invariant.0 c.loop-at-test.false in
+    let f = none_fails inside rs c.loop-at.at c.loop-at.invariant.0 c.loop-at-test.false in
     let e = c.loop-at.invariant.1 ∙ at_drop_all (fold plus c.loop-at.set) rs c.loop-at.at c.loop-at-test.false in
     ap Ok (sym e) ∙ sym (ap (λ (o : Option ℕ). unless o Beyond (Ok (union rs))) f)
