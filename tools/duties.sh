@@ -7,7 +7,7 @@ set -eu -o pipefail
 cd "$(dirname "$0")/.."
 work=$(mktemp -d)
 trap 'rm -rf "$work"' EXIT
-cp -a crates crates.txt target "$work"/
+cp -a crates crates.txt "$work"/
 cd "$work"
 
 # misuse NAME ERROR RESULT: a lift, and then this made of its duty, is refused with just this error.
@@ -35,7 +35,7 @@ pub fn misuse<C: Chip>(
 }
 RATTLE
     local said
-    said=$(rt dev "$1" 2>&1 | grep -o "error\[[^]]*\]: [^:]*" || true)
+    said=$(cd "crates/$1" && rt check 2>&1 | grep -o "error\[[^]]*\]: [^:]*" || true)
     if [ "$said" != "$2" ]; then
         printf 'duties: %s: expected\n  %s\nbut the compiler said\n  %s\n' "$1" "$2" "${said:-nothing}"
         exit 1
