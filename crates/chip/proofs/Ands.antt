@@ -1,22 +1,8 @@
--- Masks: `and` is associative and distributes over `or`, so what lies inside a mask stays inside it.
+-- Masks: `and` distributes over `or`, so what lies inside a mask stays inside it.
 use Rattle.std.proofs.Common.{◌≡◌, ℕ, ◌-◌, ◌/◌, ◌^◌, ◌<◌, sym, refl, ap, ◌∙◌, mod-eq_of_lt, arith}
 use lib.Bits.{bit_and, bit_or, and_step, or_step, and_shr, or_shr, and_mask, and_le_r, and_comm}
 use lib.Arith.{bin_ind}
-
-and_assoc : (a b c : ℕ) → bit_and (bit_and a b) c ≡ bit_and a (bit_and b c)
-and_assoc =
-    bin_ind (λ n. (b c : ℕ) → bit_and (bit_and n b) c ≡ bit_and n (bit_and b c)) (λ b c. refl)
-    (λ n ih b c.
-    let p = and_step n b in
-    let q = and_step (bit_and n b) c in
-    let r = and_step b c in
-    let s = and_step n (bit_and b c) in
-    let l : bit_and (bit_and n b / 2) (c / 2) ≡ bit_and (bit_and (n / 2) (b / 2)) (c / 2) =
-    ap (λ x. bit_and x (c / 2)) (and_shr n b 1) in
-    let m : bit_and (n / 2) (bit_and b c / 2) ≡ bit_and (n / 2) (bit_and (b / 2) (c / 2)) =
-    ap (bit_and (n / 2)) (and_shr b c 1) in
-    let h = ih (b / 2) (c / 2) in
-    omega arith)
+use Rattle.std.proofs.lemmas.Nat.{and_assoc}
 
 and_over_or : (a b c : ℕ) → bit_and (bit_or a b) c ≡ bit_or (bit_and a c) (bit_and b c)
 and_over_or =
@@ -38,11 +24,11 @@ and_over_or =
 
 -- What is cut to a mask lies inside every mask that holds it.
 pub inside : (v m b : ℕ) → bit_and m b ≡ m → bit_and (bit_and v m) b ≡ bit_and v m
-inside v m b e = and_assoc v m b ∙ ap (bit_and v) e
+inside v m b e = and_assoc b v m ∙ ap (bit_and v) e
 
 -- What lies inside a mask does so when it is cut further.
 pub still_inside : (x m b : ℕ) → bit_and x b ≡ x → bit_and (bit_and x m) b ≡ bit_and x m
-still_inside x m b e = and_assoc x m b ∙ ap (bit_and x) (and_comm m b) ∙ sym (and_assoc x b m) ∙ ap (λ z. bit_and z m) e
+still_inside x m b e = and_assoc b x m ∙ ap (bit_and x) (and_comm m b) ∙ sym (and_assoc m x b) ∙ ap (λ z. bit_and z m) e
 
 -- Two numbers inside a mask have their `or` inside it.
 pub both_inside : (x y b : ℕ) → bit_and x b ≡ x → bit_and y b ≡ y → bit_and (bit_or x y) b ≡ bit_or x y

@@ -6,6 +6,7 @@ use Rattle.chip.specs.declared.model.Part.TheVariants.{Jw, Xa, Other}
 use Rattle.chip.specs.declared.model.Arming.{Arming}
 use Rattle.chip.specs.declared.model.Arming.TheVariants.{Disarmed, Volatile, Stored}
 use Rattle.chip.specs.declared.model.Registers.{Registers}
+use Rattle.chip.specs.declared.model.Bits.{Bits}
 use Rattle.chip.specs.declared.model.Face.{Face}
 use Rattle.chip.specs.declared.model.Bytes.{Bytes}
 use Rattle.chip.specs.declared.model.Bytes.TheVariants.{Zero, One, Two, Three}
@@ -48,6 +49,10 @@ abbrev pub lock_bits : Part → ℕ
 lock_bits Jw = 2 ^ 62 - 1
 lock_bits Xa = 0
 lock_bits (Other n) = 2 ^ 62 - 1
+
+-- All of these at once.
+abbrev pub bits_of : Part → Bits
+bits_of p = record { registers = record { sr1 = bits1 p; sr2 = bits2 p; sr3 = bits3 p }; locks = lock_bits p }
 
 -- No register bit is set that the part lacks.
 abbrev pub Clear : Part → Registers → Type 0

@@ -1,69 +1,49 @@
 // The effect of commands, as functions on values: what the chips and the picture of a chip share.
-ghost use Rattle.chip.specs.Effect.{number_of, part_of, bits1, bits2, bits3, lock_bits, plain_face, Clear, Plain, order_of, bare, with_byte, with_two, at_address, accepts, locked, suspended, armed, armed_stored, second, written, lasting, relocked, locks_after, face_after, arming_after};
+ghost use Rattle.chip.specs.Effect.{number_of, part_of, bits2, bits_of, lock_bits, plain_face, Clear, Plain, order_of, bare, with_byte, with_two, at_address, accepts, locked, suspended, armed, armed_stored, second, written, lasting, relocked, locks_after, face_after, arming_after};
 ghost use Rattle.std.specs.Prelude.{◌≡◌, ◌+◌, ◌*◌, ◌^◌, ◌<◌, bit_and};
 
-use crate::model::{Arming, Bytes, Command, Face, Order, Part, RegisterWrite, Registers, Relock};
-
-// The part number of a part.
-pub fn number_of(part: Part) -> u32
-    ensures { result ≡ number_of part }
-{
-    match part {
-        Part::Jw => 0xEF8015,
-        Part::Xa => 0xEF3015,
-        Part::Other(n) => n,
-    }
-}
+use crate::model::{
+    Arming, Bits, Bytes, Command, Face, Order, Part, RegisterWrite, Registers, Relock,
+};
 
 // The part of a part number.
-pub fn part_of(number: u32) -> Part
-    ensures { result ≡ part_of number }
-{
-    match number {
-        0xEF8015 => Part::Jw,
-        0xEF3015 => Part::Xa,
-        _ => Part::Other(number),
+impl From<u32> for Part {
+    ghost from_gives = { λ number part. part ≡ part_of number };
+
+    fn from(number: u32) -> Part {
+        match number {
+            0xEF8015 => Part::Jw,
+            0xEF3015 => Part::Xa,
+            _ => Part::Other(number),
+        }
     }
 }
 
-// The bits of SR1 that the part has, less WEL and BUSY.
-pub fn bits_of_sr1(part: Part) -> u8
-    ensures { result ≡ bits1 part }
-{
-    match part {
-        Part::Jw => 0xFC,
-        Part::Xa => 0xBC,
-        Part::Other(_) => 0xFC,
+// The part number of a part.
+impl From<Part> for u32 {
+    ghost from_gives = { λ part number. number ≡ number_of part };
+
+    fn from(part: Part) -> u32 {
+        match part {
+            Part::Jw => 0xEF8015,
+            Part::Xa => 0xEF3015,
+            Part::Other(number) => number,
+        }
     }
 }
 
-pub fn bits_of_sr2(part: Part) -> u8
-    ensures { result ≡ bits2 part }
+// The bits that a part has, of SR1 less WEL and BUSY.
+pub fn bits_of(part: Part) -> Bits
+    ensures { result ≡ bits_of part }
 {
-    match part {
-        Part::Jw => 0xFB,
-        Part::Xa => 0,
-        Part::Other(_) => 0xFF,
-    }
-}
-
-pub fn bits_of_sr3(part: Part) -> u8
-    ensures { result ≡ bits3 part }
-{
-    match part {
-        Part::Jw => 0xE4,
-        Part::Xa => 0,
-        Part::Other(_) => 0xFF,
-    }
-}
-
-pub fn bits_of_locks(part: Part) -> u64
-    ensures { result ≡ lock_bits part }
-{
-    match part {
-        Part::Jw => 0x3FFF_FFFF_FFFF_FFFF,
-        Part::Xa => 0,
-        Part::Other(_) => 0x3FFF_FFFF_FFFF_FFFF,
+    let (sr1, sr2, sr3, locks) = match part {
+        Part::Jw => (0xFC, 0xFB, 0xE4, 0x3FFF_FFFF_FFFF_FFFF),
+        Part::Xa => (0xBC, 0, 0, 0),
+        Part::Other(_) => (0xFC, 0xFF, 0xFF, 0x3FFF_FFFF_FFFF_FFFF),
+    };
+    Bits {
+        registers: Registers { sr1, sr2, sr3 },
+        locks,
     }
 }
 
@@ -73,14 +53,15 @@ pub fn plain_face(face: Face) -> Face
     ensures plain { Plain result }
 {
     let r = face.working;
+    let bits = bits_of(face.part);
     let working = Registers {
-        sr1: r.sr1 & bits_of_sr1(face.part),
-        sr2: r.sr2 & bits_of_sr2(face.part),
-        sr3: r.sr3 & bits_of_sr3(face.part),
+        sr1: r.sr1 & bits.registers.sr1,
+        sr2: r.sr2 & bits.registers.sr2,
+        sr3: r.sr3 & bits.registers.sr3,
     };
     Face {
         working,
-        locks: face.locks & bits_of_locks(face.part),
+        locks: face.locks & bits.locks,
         ..face
     }
 }
@@ -88,75 +69,52 @@ pub fn plain_face(face: Face) -> Face
 fn bare_order(part: Part, code: u8) -> Order
     ensures { result ≡ bare part code }
 {
-    match part {
-        Part::Jw => match code {
-            0x06 => Order::Arm(Arming::Stored),
-            0x50 => Order::Arm(Arming::Volatile),
-            0x04 => Order::Arm(Arming::Disarmed),
-            0x7E => Order::Change(Relock::LockAll),
-            0x98 => Order::Change(Relock::UnlockAll),
-            _ => Order::Ignored,
-        },
-        Part::Xa => match code {
-            0x06 => Order::Arm(Arming::Stored),
-            0x04 => Order::Arm(Arming::Disarmed),
-            _ => Order::Ignored,
-        },
-        Part::Other(_) => Order::Ignored,
+    match (part, code) {
+        (Part::Jw | Part::Xa, 0x06) => Order::Arm(Arming::Stored),
+        (Part::Jw, 0x50) => Order::Arm(Arming::Volatile),
+        (Part::Jw | Part::Xa, 0x04) => Order::Arm(Arming::Disarmed),
+        (Part::Jw, 0x7E) => Order::Change(Relock::LockAll),
+        (Part::Jw, 0x98) => Order::Change(Relock::UnlockAll),
+        _ => Order::Ignored,
     }
 }
 
 fn one_byte_order(part: Part, code: u8, a: u8) -> Order
     ensures { result ≡ with_byte part code a }
 {
-    match part {
-        Part::Jw => match code {
-            0x01 => Order::Write(RegisterWrite::First(a)),
-            0x31 => Order::Write(RegisterWrite::Second(a)),
-            0x11 => Order::Write(RegisterWrite::Third(a)),
-            _ => Order::Ignored,
-        },
-        Part::Xa => match code {
-            0x01 => Order::Write(RegisterWrite::First(a)),
-            _ => Order::Ignored,
-        },
-        Part::Other(_) => Order::Ignored,
+    match (part, code) {
+        (Part::Jw | Part::Xa, 0x01) => Order::Write(RegisterWrite::First(a)),
+        (Part::Jw, 0x31) => Order::Write(RegisterWrite::Second(a)),
+        (Part::Jw, 0x11) => Order::Write(RegisterWrite::Third(a)),
+        _ => Order::Ignored,
     }
 }
 
 fn two_byte_order(part: Part, code: u8, a: u8, b: u8) -> Order
     ensures { result ≡ with_two part code a b }
 {
-    match part {
-        Part::Jw => match code {
-            0x01 => Order::Write(RegisterWrite::FirstTwo(a, b)),
-            _ => Order::Ignored,
-        },
-        Part::Xa => Order::Ignored,
-        Part::Other(_) => Order::Ignored,
+    match (part, code) {
+        (Part::Jw, 0x01) => Order::Write(RegisterWrite::FirstTwo(a, b)),
+        _ => Order::Ignored,
     }
 }
 
 fn address_order(part: Part, code: u8, address: u32) -> Order
     ensures { result ≡ at_address part code address }
 {
-    match part {
-        Part::Jw => {
-            let Some(unit) = units::unit_at(address) else {
-                return Order::Ignored;
-            };
-            match code {
-                0x36 => Order::Change(Relock::Lock(unit)),
-                0x39 => Order::Change(Relock::Unlock(unit)),
-                _ => Order::Ignored,
-            }
-        }
-        Part::Xa => Order::Ignored,
-        Part::Other(_) => Order::Ignored,
+    let Some(unit) = units::unit_at(address) else {
+        return Order::Ignored;
+    };
+    match (part, code) {
+        (Part::Jw, 0x36) => Order::Change(Relock::Lock(unit)),
+        (Part::Jw, 0x39) => Order::Change(Relock::Unlock(unit)),
+        _ => Order::Ignored,
     }
 }
 
 // What a command asks of a part.
+// Stays a function for each count of bytes: one match on the part, the code and the bytes has no rule in the checker.
+#[tactic(auto, unfolding(crate::specs::Effect::order_of))]
 pub fn order_of(part: Part, command: Command) -> Order
     ensures { result ≡ order_of part command }
 {
@@ -175,6 +133,7 @@ pub fn order_of(part: Part, command: Command) -> Order
 }
 
 // Whether the registers are locked.
+#[tactic(auto, unfolding(crate::specs::Effect::locked))]
 pub fn is_locked(face: Face) -> bool
     ensures { result ≡ locked face }
 {
@@ -183,6 +142,7 @@ pub fn is_locked(face: Face) -> bool
 }
 
 // Whether SUS reads 1.
+#[tactic(auto, unfolding(crate::specs::Effect::suspended))]
 pub fn is_suspended(face: Face) -> bool
     ensures { result ≡ suspended face }
 {
@@ -192,25 +152,18 @@ pub fn is_suspended(face: Face) -> bool
 fn is_armed(arming: Arming) -> bool
     ensures { result ≡ armed arming }
 {
-    match arming {
-        Arming::Disarmed => false,
-        Arming::Volatile => true,
-        Arming::Stored => true,
-    }
+    arming != Arming::Disarmed
 }
 
 // The arming that WEL shows.
 pub fn is_armed_stored(arming: Arming) -> bool
     ensures { result ≡ armed_stored arming }
 {
-    match arming {
-        Arming::Disarmed => false,
-        Arming::Volatile => false,
-        Arming::Stored => true,
-    }
+    arming == Arming::Stored
 }
 
 // Whether an order is taken.
+// Stays a function of three values: of an order, a latch and a face, each of these functions needs others.
 pub fn accepts(order: Order, arming: Arming, face: Face) -> bool
     ensures { result ≡ accepts order arming face }
 {
@@ -226,7 +179,7 @@ fn second_after(part: Part, b: u8, old: u8) -> u8
     ensures value { result ≡ second part b old }
     ensures clear { bit_and old (bits2 part) ≡ old → bit_and result (bits2 part) ≡ result }
 {
-    (b & (bits_of_sr2(part) & 0x7B)) | (old & 0xB8)
+    (b & (bits_of(part).registers.sr2 & 0x7B)) | (old & 0xB8)
 }
 
 // The registers once a write is in.
@@ -234,14 +187,15 @@ pub fn written(part: Part, write: RegisterWrite, r: Registers) -> Registers
     ensures value { result ≡ written part write r }
     ensures clear { Clear part r → Clear part result }
 {
+    let bits = bits_of(part).registers;
     match write {
         RegisterWrite::First(a) => Registers {
-            sr1: a & bits_of_sr1(part),
+            sr1: a & bits.sr1,
             ..r
         },
         RegisterWrite::FirstTwo(a, b) => {
             Registers {
-                sr1: a & bits_of_sr1(part),
+                sr1: a & bits.sr1,
                 sr2: second_after(part, b, r.sr2),
                 sr3: r.sr3,
             }
@@ -251,7 +205,7 @@ pub fn written(part: Part, write: RegisterWrite, r: Registers) -> Registers
             ..r
         },
         RegisterWrite::Third(b) => Registers {
-            sr3: b & bits_of_sr3(part),
+            sr3: b & bits.sr3,
             ..r
         },
     }

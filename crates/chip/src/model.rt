@@ -1,7 +1,7 @@
 // The plain values that describe a chip, a command and an answer.
 
 // Which part a chip is, by the part number that it answers.
-#[derive(Clone, Copy)]
+#[derive(Clone, Copy, Debug, PartialEq, Eq)]
 pub enum Part {
     // W25Q16JW, EF8015h
     Jw,
@@ -12,15 +12,33 @@ pub enum Part {
 }
 
 // The status registers, SR1 without WEL and BUSY, which stand in `State`'s arming and busy.
-#[derive(Clone, Copy)]
+#[derive(Clone, Copy, Debug, PartialEq, Eq)]
 pub struct Registers {
     pub sr1: u8,
     pub sr2: u8,
     pub sr3: u8,
 }
 
+// The bits that a part has; the others read 0.
+#[derive(Clone, Copy, Debug, PartialEq, Eq)]
+pub struct Bits {
+    // without WEL and BUSY
+    pub registers: Registers,
+    pub locks: u64,
+}
+
+// What a chip starts with.
+#[derive(Clone, Copy, Debug, PartialEq, Eq)]
+pub struct Start {
+    pub registers: Registers,
+    pub locks: u64,
+    pub wp: bool,
+    pub slow: u16,
+    pub carry: u32,
+}
+
 // All of a chip that can be read, but for WEL and BUSY: two chips read alike when their faces are the same.
-#[derive(Clone, Copy)]
+#[derive(Clone, Copy, Debug, PartialEq, Eq)]
 pub struct Face {
     pub part: Part,
     // the working registers, by which the chip acts
@@ -32,7 +50,7 @@ pub struct Face {
 }
 
 // The write enable latch, and which write it enables.
-#[derive(Clone, Copy)]
+#[derive(Clone, Copy, Debug, PartialEq, Eq)]
 pub enum Arming {
     Disarmed,
     // a write of the working registers alone; WEL does not show it
@@ -42,7 +60,7 @@ pub enum Arming {
 }
 
 // A chip's whole state, with the cable to it.
-#[derive(Clone, Copy)]
+#[derive(Clone, Copy, Debug, PartialEq, Eq)]
 pub struct State {
     pub face: Face,
     // the registers that power brings back
@@ -57,7 +75,7 @@ pub struct State {
 }
 
 // The bytes that follow a command's code.
-#[derive(Clone, Copy)]
+#[derive(Clone, Copy, Debug, PartialEq, Eq)]
 pub enum Bytes {
     Zero,
     One(u8),
@@ -65,13 +83,13 @@ pub enum Bytes {
     Three(u8, u8, u8),
 }
 
-#[derive(Clone, Copy)]
+#[derive(Clone, Copy, Debug, PartialEq, Eq)]
 pub struct Command {
     pub code: u8,
     pub bytes: Bytes,
 }
 
-#[derive(Clone, Copy)]
+#[derive(Clone, Copy, Debug, PartialEq, Eq)]
 pub enum Question {
     Status1,
     Status2,
@@ -82,13 +100,14 @@ pub enum Question {
 }
 
 // One exchange over the cable.
-#[derive(Clone, Copy)]
+#[derive(Clone, Copy, Debug, PartialEq, Eq)]
 pub enum Exchange {
     Ask(Question),
     Send(Command),
 }
 
-#[derive(Clone, Copy)]
+// Stays an enum of three: a `Result` of an `Option` would not say what an answer without a value means.
+#[derive(Clone, Copy, Debug, PartialEq, Eq)]
 pub enum Answer {
     // the cable carries nothing any more
     Down,
@@ -99,7 +118,7 @@ pub enum Answer {
 }
 
 // The registers that a register write brings, with their bytes.
-#[derive(Clone, Copy)]
+#[derive(Clone, Copy, Debug, PartialEq, Eq)]
 pub enum RegisterWrite {
     First(u8),
     FirstTwo(u8, u8),
@@ -108,7 +127,7 @@ pub enum RegisterWrite {
 }
 
 // A change of lock bits.
-#[derive(Clone, Copy)]
+#[derive(Clone, Copy, Debug, PartialEq, Eq)]
 pub enum Relock {
     Lock(u8),
     Unlock(u8),
@@ -117,7 +136,7 @@ pub enum Relock {
 }
 
 // What a command asks of a part.
-#[derive(Clone, Copy)]
+#[derive(Clone, Copy, Debug, PartialEq, Eq)]
 pub enum Order {
     // nothing: the part has no such command
     Ignored,

@@ -54,13 +54,13 @@ impl Chip for ForeignChip {
         };
         match e {
             Exchange::Ask(Question::Status1) => {
-                let wel = if memory.armed { 2 } else { 0 };
-                let busy = if memory.busy == 0 { 0 } else { 1 };
+                let wel = u32::from(memory.armed);
+                let busy = u32::from(memory.busy > 0);
                 self.memory = Memory {
                     busy: memory.busy.saturating_sub(1),
                     ..memory
                 };
-                Answer::Value(memory.sr1 as u32 + wel + busy)
+                Answer::Value(u32::from(memory.sr1) + 2 * wel + busy)
             }
             Exchange::Ask(Question::PartNumber) => {
                 self.memory = memory;

@@ -1,6 +1,6 @@
 //! The output of a program that answers a file of lines.
 //!
-//! The caller lends the bytes and their length so far. A line is written through a guard: one that does not fit is taken back whole, and the lines before it stand.
+//! The caller lends the bytes. A line is written through a guard: one that does not fit is taken back whole, and the lines before it stand.
 
 #![tactic(auto)]
 
@@ -10,10 +10,32 @@ ghost use Rattle.output.specs.Pour.{Said};
 ghost use Rattle.output.specs.Puts.{Puts};
 
 /// The bytes have no room for all of the text.
-#[derive(Clone, Copy)]
+#[derive(Clone, Copy, Debug, PartialEq, Eq)]
 pub struct NoRoom;
 
+/// The bytes that a caller lends, and how many of the first of them are said so far.
+// Stays without a ghost field that bounds the length: past one, the check does not follow what a line leaves in the bytes.
+#[derive(Drop)]
+pub struct Output<'a> {
+    pub bytes: &'a mut [u8],
+    pub len: usize,
+}
+
+impl Output<'_> {
+    /// Says the text as a line of its own.
+    pub fn say_line(&mut self, text: &[u8]) -> Result<(), NoRoom>
+        ensures { Said (text.now ++ (10 ∷ [])) result self.old self.new }
+    {
+        let mut line = Line::open(self.bytes, &mut self.len);
+        line.text(text)?;
+        line.put(b'\n')?;
+        line.keep();
+        Ok(())
+    }
+}
+
 /// A line that is being written. Let go before it is kept, it is taken back.
+// Stays over the two parts of an output: the check knows nothing more of a struct that itself borrows, once a guard held it.
 pub struct Line<'a> {
     bytes: &'a mut [u8],
     len: &'a mut usize,
@@ -46,6 +68,7 @@ impl<'a> Line<'a> {
         Line { bytes, len, start }
     }
 
+    // Stays apart from the push of a list over lent places: here the length is the output's, and the refusal another.
     /// Writes one byte.
     pub fn put(&mut self, b: u8) -> Result<(), NoRoom>
         ensures { Puts (b ∷ []) result self.old self.new }
@@ -73,6 +96,7 @@ impl<'a> Line<'a> {
         Ok(())
     }
 
+    // Stays apart from `write!`, for `decimal` too: that tells nothing of what a refused text leaves in the bytes.
     /// Writes the low hex digits of `n`, `width` of them.
     pub fn hex(&mut self, width: u32, n: u64) -> Result<(), NoRoom>
         ensures { Puts (hex_text width n) result self.old self.new }
@@ -132,15 +156,4 @@ fn sign_of(digit: u8) -> u8
     } else {
         b'A' + (digit - 10)
     }
-}
-
-/// Says the text as a line of its own.
-pub fn say_line(bytes: &mut [u8], len: &mut usize, text: &[u8]) -> Result<(), NoRoom>
-    ensures { Said (text.now ++ (10 ∷ [])) result bytes.old len.old bytes.new len.new }
-{
-    let mut line = Line::open(bytes, len);
-    line.text(text)?;
-    line.put(b'\n')?;
-    line.keep();
-    Ok(())
 }

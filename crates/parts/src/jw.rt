@@ -1,90 +1,96 @@
-// A simulated W25Q16JW.
+// A simulated W25Q16JW, and how what it holds changes.
+ghost use Rattle.chip.specs.Step.{taken};
 ghost use Rattle.chip.specs.declared.model.Part.TheVariants.{Jw};
-ghost use Rattle.parts.specs.Start.{Startable, started, jw_state, JwBounded};
-ghost use Rattle.chip.specs.Effect.{Clear, lock_bits};
-ghost use Rattle.std.specs.Prelude.{◌≡◌, MatchOption, bit_and};
+ghost use Rattle.parts.specs.Holding.{over, jw_held};
+ghost use Rattle.std.specs.Prelude.{◌≡◌};
 ghost use Rattle.std.proofs.Common.{rules};
 
+use crate::held::Held;
 use crate::jw_memory::JwMemory;
+use crate::line::Line;
+use crate::memory::Memory;
+use crate::simulated::Simulated;
 use chip::effect;
-use chip::interface::Chip;
-use chip::model::{Answer, Arming, Exchange, Registers};
+use chip::model::{Arming, Command, Face, Order, Part, Start};
 
-#[derive(Clone, Copy)]
-pub struct W25q16jw {
-    memory: JwMemory,
-    ghost clear: { Clear Jw memory.working },
-    ghost stored_clear: { Clear Jw memory.stored },
-    ghost lasts: { bit_and memory.stored.sr2 122 ≡ memory.stored.sr2 },
-    ghost locks_clear: { bit_and memory.locks (lock_bits Jw) ≡ memory.locks },
-    ghost bounded: { JwBounded memory },
-}
+pub type W25q16jw = Simulated<JwMemory>;
 
-impl W25q16jw {
-    // A chip that starts with the registers, lock bits and level of /WP given. Refused where a bit is set that must
-    // read 0, and where it would be slower, or its cable carry more, than a chip may.
-    pub fn new(working: Registers, locks: u64, wp: bool, slow: u16, carry: u32) -> Option<W25q16jw>
-        ensures { MatchOption result (Startable Jw working locks slow carry → ⊥) (λ x. Startable Jw working locks slow carry × (jw_state x.memory ≡ started Jw working locks wp slow carry)) }
+impl JwMemory {
+    fn face(&self, wp: bool) -> Face
+        ensures { result ≡ record { part = Jw; working = self.now.working; locks = self.now.locks; wp = wp } }
     {
-        if working.sr1 & 0xFC != working.sr1 || working.sr2 & 0xFB != working.sr2 {
-            return None;
-        }
-        if working.sr3 & 0xE4 != working.sr3 || locks & 0x3FFF_FFFF_FFFF_FFFF != locks {
-            return None;
-        }
-        if slow > 1000 || carry > 1_000_000 {
-            return None;
-        }
-        let stored = effect::lasting(working);
-        let memory = JwMemory {
-            working,
-            stored,
-            locks,
+        Face {
+            part: Part::Jw,
+            working: self.working,
+            locks: self.locks,
             wp,
-            arming: Arming::Disarmed,
-            busy: 0,
-            slow,
-            carry,
-        };
-        Some(W25q16jw { memory })
+        }
+    }
+
+    // Takes an order: a write under the stored arming goes into the stored registers too, and takes its time.
+    fn take(&mut self, order: Order, mut line: Line) -> Line
+        ensures { over (jw_held self.new) result ≡ taken order (over (jw_held self.old) line) }
+    {
+        let face = effect::face_after(order, self.face(line.wp));
+        if let Order::Write(write) = order
+            && effect::is_armed_stored(self.arming)
+        {
+            self.stored = effect::lasting(effect::written(Part::Jw, write, self.stored));
+            line.busy = line.slow;
+        }
+        self.working = face.working;
+        self.locks = face.locks;
+        self.arming = effect::arming_after(order, self.arming);
+        line
     }
 }
 
-impl Chip for W25q16jw {
-    ghost state = { λ x. jw_state x.memory };
+impl Memory for JwMemory {
+    ghost part = { Jw };
+
+    ghost held = { jw_held };
 
     ghost sound = { Prim.search rules };
 
-    fn exchange(&mut self, e: Exchange) -> Answer {
-        if self.memory.carry == 0 {
-            return Answer::Down;
+    fn started(start: Start) -> Option<JwMemory> {
+        let working = start.registers;
+        if working.sr1 & 0xFC != working.sr1 || working.sr2 & 0xFB != working.sr2 {
+            return None;
         }
-        let memory = JwMemory {
-            carry: self.memory.carry - 1,
-            ..self.memory
-        };
-        match e {
-            Exchange::Ask(question) => {
-                let answer = memory.told(question);
-                self.memory = memory.polled(question);
-                Answer::Value(answer)
-            }
-            Exchange::Send(command) => {
-                self.memory = memory.commanded(command);
-                Answer::Carried
-            }
+        if working.sr3 & 0xE4 != working.sr3 || start.locks & 0x3FFF_FFFF_FFFF_FFFF != start.locks {
+            return None;
+        }
+        Some(JwMemory {
+            working,
+            stored: effect::lasting(working),
+            locks: start.locks,
+            arming: Arming::Disarmed,
+        })
+    }
+
+    fn held(&self) -> Held {
+        Held {
+            part: Part::Jw,
+            working: self.working,
+            stored: self.stored,
+            locks: self.locks,
+            arming: self.arming,
         }
     }
 
-    fn key(&mut self, high: bool) {
-        self.memory.wp = high;
-    }
-
-    fn level(&self) -> bool {
-        self.memory.wp
+    #[tactic(auto, unfolding(chip::specs::Step::obeyed))]
+    fn obey(&mut self, command: Command, line: Line) -> Line {
+        let order = effect::order_of(Part::Jw, command);
+        if effect::accepts(order, self.arming, self.face(line.wp)) {
+            self.take(order, line)
+        } else {
+            line
+        }
     }
 
     fn power(&mut self) {
-        self.memory = self.memory.powered();
+        self.working = self.stored;
+        self.locks = 0x3FFF_FFFF_FFFF_FFFF;
+        self.arming = Arming::Disarmed;
     }
 }

@@ -2,7 +2,12 @@
 
 #![tactic(auto)]
 
+pub mod any;
+mod held;
 pub mod jw;
-pub mod jw_memory;
+mod jw_memory;
+mod line;
+mod memory;
+pub mod simulated;
 pub mod xa;
-pub mod xa_memory;
+mod xa_memory;

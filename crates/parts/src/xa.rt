@@ -1,75 +1,100 @@
-// A simulated W25X16A.
+// A simulated W25X16A, and how what it holds changes.
+ghost use Rattle.chip.specs.Step.{obeyed};
+ghost use Rattle.chip.specs.declared.model.Bytes.TheVariants.{Zero, One};
 ghost use Rattle.chip.specs.declared.model.Part.TheVariants.{Xa};
-ghost use Rattle.parts.specs.Start.{Startable, started, xa_registers, xa_state, XaKept};
-ghost use Rattle.std.specs.Prelude.{◌≡◌, MatchOption};
+ghost use Rattle.parts.specs.Holding.{over, xa_registers, xa_arming, xa_held};
+ghost use Rattle.std.specs.Prelude.{◌≡◌};
 ghost use Rattle.std.proofs.Common.{rules};
 
+use crate::held::Held;
+use crate::line::Line;
+use crate::memory::Memory;
+use crate::simulated::Simulated;
 use crate::xa_memory::XaMemory;
-use chip::interface::Chip;
-use chip::model::{Answer, Exchange};
+use chip::model::{Arming, Bytes, Command, Part, Registers, Start};
 
-#[derive(Clone, Copy)]
-pub struct W25x16a {
-    memory: XaMemory,
-    ghost kept: { XaKept memory },
-}
+pub type W25x16a = Simulated<XaMemory>;
 
-impl W25x16a {
-    // A chip that starts with the SR1 and the level of /WP given. Refused where a bit is set that must read 0, and
-    // where it would be slower, or its cable carry more, than a chip may.
-    pub fn new(sr1: u8, wp: bool, slow: u16, carry: u32) -> Option<W25x16a>
-        ensures { MatchOption result (Startable Xa (xa_registers sr1) 0 slow carry → ⊥) (λ x. Startable Xa (xa_registers sr1) 0 slow carry × (xa_state x.memory ≡ started Xa (xa_registers sr1) 0 wp slow carry)) }
+impl XaMemory {
+    // A register write that comes while it is not busy: SRP with /WP low locks the register.
+    #[tactic(auto, using(chip::proofs::Ands::inside), unfolding(chip::specs::Step::obeyed, chip::specs::Effect::order_of, chip::specs::Effect::locked, chip::specs::Effect::suspended))]
+    fn write(&mut self, byte: u8, mut line: Line) -> Line
+        ensures { over (xa_held self.new) result ≡ obeyed (record { code = 1; bytes = One byte }) (over (xa_held self.old) line) }
     {
-        if sr1 & 0xBC != sr1 || slow > 1000 || carry > 1_000_000 {
-            return None;
+        if !self.armed || (self.sr1 / 128 == 1 && !line.wp) {
+            return line;
         }
-        let memory = XaMemory {
-            sr1,
-            wp,
-            armed: false,
-            busy: 0,
-            slow,
-            carry,
-        };
-        Some(W25x16a { memory })
+        self.sr1 = byte & 0xBC;
+        self.armed = false;
+        line.busy = line.slow;
+        line
+    }
+
+    // A command without bytes that comes while it is not busy.
+    #[tactic(auto, unfolding(chip::specs::Step::obeyed, chip::specs::Effect::order_of))]
+    fn arm(&mut self, code: u8)
+        ensures { (l : Line) → over (xa_held self.new) l ≡ obeyed (record { code = code; bytes = Zero }) (over (xa_held self.old) l) }
+    {
+        match code {
+            0x06 => self.armed = true,
+            0x04 => self.armed = false,
+            _ => {}
+        }
     }
 }
 
-impl Chip for W25x16a {
-    ghost state = { λ x. xa_state x.memory };
+impl Memory for XaMemory {
+    ghost part = { Xa };
+
+    ghost held = { xa_held };
 
     ghost sound = { Prim.search rules };
 
-    fn exchange(&mut self, e: Exchange) -> Answer {
-        if self.memory.carry == 0 {
-            return Answer::Down;
+    fn started(start: Start) -> Option<XaMemory> {
+        let Registers { sr1, sr2, sr3 } = start.registers;
+        if sr1 & 0xBC != sr1 || sr2 != 0 || sr3 != 0 || start.locks != 0 {
+            return None;
         }
-        let memory = XaMemory {
-            carry: self.memory.carry - 1,
-            ..self.memory
+        Some(XaMemory { sr1, armed: false })
+    }
+
+    fn held(&self) -> Held {
+        let registers = Registers {
+            sr1: self.sr1,
+            sr2: 0,
+            sr3: 0,
         };
-        match e {
-            Exchange::Ask(question) => {
-                let answer = memory.told(question);
-                self.memory = memory.polled(question);
-                Answer::Value(answer)
-            }
-            Exchange::Send(command) => {
-                self.memory = memory.commanded(command);
-                Answer::Carried
-            }
+        let arming = if self.armed {
+            Arming::Stored
+        } else {
+            Arming::Disarmed
+        };
+        Held {
+            part: Part::Xa,
+            working: registers,
+            stored: registers,
+            locks: 0,
+            arming,
         }
     }
 
-    fn key(&mut self, high: bool) {
-        self.memory.wp = high;
-    }
-
-    fn level(&self) -> bool {
-        self.memory.wp
+    #[tactic(auto, unfolding(chip::specs::Step::obeyed, chip::specs::Effect::order_of))]
+    fn obey(&mut self, command: Command, line: Line) -> Line {
+        match command.bytes {
+            Bytes::Zero => {
+                self.arm(command.code);
+                line
+            }
+            Bytes::One(byte) => if command.code == 0x01 {
+                self.write(byte, line)
+            } else {
+                line
+            },
+            Bytes::Two(_, _) | Bytes::Three(_, _, _) => line,
+        }
     }
 
     fn power(&mut self) {
-        self.memory = self.memory.powered();
+        self.armed = false;
     }
 }

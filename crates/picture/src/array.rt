@@ -1,10 +1,15 @@
 // The commands that change the array.
-ghost use Rattle.picture.specs.Protection.{array_command, extent, offers};
-ghost use Rattle.std.specs.Prelude.{◌≡◌};
+ghost use Rattle.picture.specs.Protection.{array_command, extent, offers, region};
+ghost use Rattle.refusals.specs.declared.RunFault.TheVariants.{Code};
+ghost use Rattle.units.specs.Units.{array_size};
+ghost use Rattle.std.specs.Option.{ok_or};
+ghost use Rattle.std.specs.Prelude.{◌≡◌, ◌<◌, ◌≤◌};
 
 use chip::model::Part;
+use refusals::RunFault;
+use units::Range;
 
-#[derive(Clone, Copy)]
+#[derive(Clone, Copy, Debug, PartialEq, Eq)]
 pub enum ArrayCommand {
     // 02h, 256 bytes
     ProgramPage,
@@ -18,23 +23,27 @@ pub enum ArrayCommand {
     EraseChip,
 }
 
-impl ArrayCommand {
-    // The command with this code, if there is one.
-    pub fn of(code: u8) -> Option<ArrayCommand>
-        ensures { result ≡ array_command code }
-    {
+impl TryFrom<u8> for ArrayCommand {
+    type Error = RunFault;
+
+    ghost try_from_gives = { λ code r. r ≡ ok_or (array_command code) Code };
+
+    // The command with this code; any other code is none that can be judged.
+    fn try_from(code: u8) -> Result<ArrayCommand, RunFault> {
         match code {
-            0x02 => Some(ArrayCommand::ProgramPage),
-            0x20 => Some(ArrayCommand::EraseSector),
-            0x52 => Some(ArrayCommand::EraseHalfBlock),
-            0xD8 => Some(ArrayCommand::EraseBlock),
-            0xC7 => Some(ArrayCommand::EraseChip),
-            _ => None,
+            0x02 => Ok(ArrayCommand::ProgramPage),
+            0x20 => Ok(ArrayCommand::EraseSector),
+            0x52 => Ok(ArrayCommand::EraseHalfBlock),
+            0xD8 => Ok(ArrayCommand::EraseBlock),
+            0xC7 => Ok(ArrayCommand::EraseChip),
+            _ => Err(RunFault::Code),
         }
     }
+}
 
+impl ArrayCommand {
     // How many bytes it changes.
-    pub(crate) fn extent(self) -> u32
+    fn extent(self) -> u32
         ensures { result ≡ extent self }
     {
         match self {
@@ -46,16 +55,27 @@ impl ArrayCommand {
         }
     }
 
+    // The bytes that it changes at an address.
+    pub(crate) fn region(self, address: u32) -> Range
+        requires { address < array_size }
+        ensures value { result ≡ region self address }
+        ensures within { (result.first ≤ result.last) × (result.last < array_size) }
+    {
+        let extent = self.extent();
+        let first = address / extent * extent;
+        Range {
+            first,
+            last: first + extent - 1,
+        }
+    }
+
     // Whether the part has it.
     pub(crate) fn offered_by(self, part: Part) -> bool
         ensures { result ≡ offers part self }
     {
         match part {
             Part::Jw => true,
-            Part::Xa => match self {
-                ArrayCommand::EraseHalfBlock => false,
-                _ => true,
-            },
+            Part::Xa => self != ArrayCommand::EraseHalfBlock,
             Part::Other(_) => false,
         }
     }

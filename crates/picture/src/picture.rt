@@ -10,9 +10,10 @@ use crate::protection;
 use crate::reading::Reading;
 use chip::effect;
 use chip::model::Command;
+use units::ARRAY_SIZE;
 
 // A reading in which no bit is set that must read 0.
-#[derive(Clone, Copy)]
+#[derive(Clone, Copy, Debug, PartialEq, Eq)]
 pub struct Picture {
     reading: Reading,
     ghost plain: { Plain reading.face },
@@ -41,13 +42,8 @@ impl Picture {
         ensures { result ≡ status_shown self.now.reading }
     {
         let sr1 = self.reading.face.working.sr1 & 0xFC;
-        let wel = if effect::is_armed_stored(self.reading.arming) {
-            2
-        } else {
-            0
-        };
-        let busy = if self.reading.busy { 1 } else { 0 };
-        sr1 + wel + busy
+        let wel = u8::from(effect::is_armed_stored(self.reading.arming));
+        sr1 + 2 * wel + u8::from(self.reading.busy)
     }
 
     // The protected units.
@@ -61,10 +57,18 @@ impl Picture {
     pub fn obeys(&self, command: ArrayCommand, address: u32) -> Option<bool>
         ensures { MatchOption result (array_size ≤ address) (λ b. (address < array_size) × ((b ≡ obeys self.now.reading.face command address) × Judged b self.now.reading.face command address)) }
     {
-        protection::obeys(self.reading.face, command, address)
+        if address >= ARRAY_SIZE {
+            return None;
+        }
+        let Some(set) = units::touched(command.region(address)) else {
+            // the region lies in the array
+            unreachable()
+        };
+        Some(command.offered_by(self.reading.face.part) && set & self.protected() == 0)
     }
 
     // A command was carried to the chip.
+    #[tactic(auto, unfolding(crate::specs::Shown::followed))]
     pub fn follow(&mut self, command: Command)
         ensures { self.new.reading ≡ followed command self.old.reading }
     {

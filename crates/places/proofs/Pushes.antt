@@ -1,7 +1,8 @@
 -- Entries after entries.
-use Rattle.std.proofs.Common.{◌≡◌, ℕ, ◌+◌, ◌≤◌, List, [], ◌++◌, length, sym, ap, ◌∙◌, subst, arith, length-append}
+use Rattle.std.proofs.Common.{◌≡◌, ℕ, ◌+◌, ◌-◌, ◌≤◌, List, [], ◌++◌, length, sym, refl, ap, ◌∙◌, arith, length-append}
 use Rattle.places.specs.Laid.{laid}
-use Rattle.places.specs.Pushed.{Added}
+use Rattle.places.specs.Pushed.{Added, Adds}
+use Rattle.places.specs.declared.Places.{Places}
 use Rattle.places.proofs.Lay.{laid_none, laid_laid, length_laid}
 
 pub added_none : {A : Type 0} (xs : List A) (n : ℕ) → n ≤ length xs → Added [] xs n xs n
@@ -17,5 +18,15 @@ added_more {A} {s} {t} {xs} {ys} {zs} {m} {n} {k} p q =
       long = omega (arith, q.long, p.long);
     }
 
-pub added_as : {A : Type 0} {s t : List A} {xs ys : List A} {m n : ℕ} → s ≡ t → Added s xs m ys n → Added t xs m ys n
-added_as {A} {s} {t} {xs} {ys} {m} {n} e p = subst (λ u. Added u xs m ys n) e p
+-- The same over the list before and after.
+pub adds_none : {A : Type 0} (p : Places A) → Adds [] p p
+adds_none p = record { added = added_none p.slots.now p.len p.fits; lent = refl }
+
+pub adds_more : {A : Type 0} {s t : List A} {p q r : Places A} → Adds s p q → Adds t q r → Adds (s ++ t) p r
+adds_more a b = record { added = added_more a.added b.added; lent = b.lent ∙ a.lent }
+
+-- Each entry takes up one place.
+pub adds_room : {A : Type 0} {s : List A} {p q : Places A} → Adds s p q → length q.slots.now - q.len + length s ≡ length p.slots.now - p.len
+adds_room {A} {s} {p} {q} a =
+    let l = ap length a.added.all ∙ length_laid p.slots.now p.len s in
+    omega (arith, a.added.room, a.added.long)

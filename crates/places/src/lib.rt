@@ -3,12 +3,12 @@
 #![tactic(auto)]
 
 ghost use Rattle.std.specs.Prelude.{◌≡◌, ◌≤◌, [], ◌∷◌, length, take, MatchResult};
-ghost use Rattle.places.specs.Pushed.{Added};
 ghost use Rattle.refusals.specs.declared.RunFault.TheVariants.{Full};
 
 use refusals::RunFault;
 
 // The entries stand in the first places, the others are as they were lent.
+// Stays a slice with a length beside it: the places are the caller's, and there is no heap.
 #[derive(Drop)]
 pub struct Places<'a, T> {
     slots: &'a mut [T],
@@ -17,6 +17,8 @@ pub struct Places<'a, T> {
 }
 
 impl<'a, T: Copy> Places<'a, T> {
+    ghost use Rattle.places.specs.Pushed.{Adds};
+
     // An empty list in these places.
     pub fn new(slots: &'a mut [T]) -> Places<'a, T>
         ensures all { result.slots.now ≡ slots.old }
@@ -27,9 +29,9 @@ impl<'a, T: Copy> Places<'a, T> {
     }
 
     // One entry more; refused where all places are taken.
+    #[tactic(auto, using(crate::proofs::Lay::laid_set))]
     pub fn push(&mut self, entry: T) -> Result<(), RunFault>
-        ensures answer { MatchResult result (λ _. Added (entry ∷ []) self.old.slots.now self.old.len self.new.slots.now self.new.len) (λ f. (f ≡ Full) × ((self.old.len ≡ length self.old.slots.now) × ((self.new.slots.now ≡ self.old.slots.now) × (self.new.len ≡ self.old.len)))) }
-        ensures same { self.new.slots.ghost_name ≡ self.old.slots.ghost_name }
+        ensures { MatchResult result (λ _. Adds (entry ∷ []) self.old self.new) (λ f. (f ≡ Full) × ((self.old.len ≡ length self.old.slots.now) × (self.new ≡ self.old))) }
     {
         if self.len < self.slots.len() {
             self.slots[self.len] = entry;

@@ -1,3 +1,5 @@
+pub mod Locking
 pub mod Short
+pub mod Sinks
 pub mod Smallest
-pub mod Writing
+pub mod Sweeps

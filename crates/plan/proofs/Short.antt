@@ -1,5 +1,5 @@
 -- No plan has more than 126 commands: two for each of the 62 units, and two for WPS.
-use Rattle.std.proofs.Common.{◌≡◌, ℕ, zero, suc, ◌+◌, ◌*◌, ◌≤◌, Bool, true, false, cond, not, ◌||◌, eqb, List, [], ◌∷◌, ◌++◌, length, Some, None, Ok, Err, Option, Result, refl, subst, arith, length-append}
+use Rattle.std.proofs.Common.{◌≡◌, ℕ, zero, suc, ◌+◌, ◌*◌, ◌<◌, ◌≤◌, Bool, true, false, cond, not, ◌||◌, eqb, IfSome, List, [], ◌∷◌, ◌++◌, length, Some, None, Ok, Err, Option, Result, refl, subst, arith, length-append}
 use Rattle.std.proofs.lemmas.Bool.{and_parts, eqb-true}
 use Rattle.units.specs.Units.{has}
 use Rattle.chip.specs.Effect.{locked}
@@ -10,6 +10,8 @@ use Rattle.chip.specs.declared.model.Part.{Part}
 use Rattle.chip.specs.declared.model.Part.TheVariants.{Jw, Xa, Other}
 use Rattle.picture.specs.Protection.{protected}
 use Rattle.plan.specs.Plan.{smallest, codes_of, by_lock_bits, locked_for_good, lock_fault, by_code, by_locks, by_either, unless_set, chosen_by, chosen, arm, third_byte, is_kept, settings, at_unit, sweep, to_lock, to_unlock, lock_plan, commands_of, commands_in, planned}
+use Rattle.plan.proofs.Smallest.{six_bits}
+use Rattle.plan.specs.Written.{Codable}
 use Rattle.plan.specs.declared.wish.Route.{Route}
 use Rattle.plan.specs.declared.wish.Route.TheVariants.{Nothing, Settings, Locks}
 use Rattle.plan.specs.declared.wish.Term.{Term}
@@ -69,68 +71,68 @@ settings_short Jw t f c =
 settings_short Xa t f c = omega arith
 settings_short (Other n) t f c = omega arith
 
-commands_short : (r : Route) (f : Face) (w : ℕ) (t : Term) → length (commands_of r f w t) ≤ 126
+pub commands_short : (r : Route) (f : Face) (w : ℕ) (t : Term) → length (commands_of r f w t) ≤ 126
 commands_short Nothing f w t = omega arith
 commands_short (Settings c) f w t = let s = settings_short f.part t f c in omega arith
 commands_short Locks f w t = lock_plan_short f w
 
--- The planner refuses with 11, 12 or 13 only.
-abbrev pub Numbered : {X : Type 0} → Result X RunFault → Type 0
-Numbered (Ok r) = Unit {0}
-Numbered (Err e) = (11 ≤ run_number e) × (run_number e ≤ 13)
+-- The planner takes a code of six bits, and refuses with 11, 12 or 13 only.
+abbrev pub Fair : Result Route RunFault → Type 0
+Fair (Ok r) = Codable r
+Fair (Err e) = (11 ≤ run_number e) × (run_number e ≤ 13)
 
-lock_fault_by : (b : Bool) → Numbered {X = Route} (Err (cond b RegisterLock PinLock))
+lock_fault_by : (b : Bool) → Fair (Err (cond b RegisterLock PinLock))
 lock_fault_by true = (omega arith, omega arith)
 lock_fault_by false = (omega arith, omega arith)
 
-unless_locked : (b : Bool) (f : Face) (r : Result Route RunFault) → Numbered r → Numbered (cond b r (Err (lock_fault f)))
+unless_locked : (b : Bool) (f : Face) (r : Result Route RunFault) → Fair r → Fair (cond b r (Err (lock_fault f)))
 unless_locked true f r h = h
 unless_locked false f r h = lock_fault_by (locked_for_good f)
 
-if_unlocked_by : (b : Bool) (f : Face) (c : ℕ) → Numbered (cond b (Err (lock_fault f)) (Ok (Settings c)))
-if_unlocked_by true f c = lock_fault_by (locked_for_good f)
-if_unlocked_by false f c = tt
+if_unlocked_by : (b : Bool) (f : Face) (c : ℕ) → c < 64 → Fair (cond b (Err (lock_fault f)) (Ok (Settings c)))
+if_unlocked_by true f c h = lock_fault_by (locked_for_good f)
+if_unlocked_by false f c h = h
 
-by_code_numbered : (c : Option ℕ) (f : Face) → Numbered (by_code c f)
-by_code_numbered None f = (omega arith, omega arith)
-by_code_numbered (Some c) f = if_unlocked_by (locked f) f c
+by_code_fair : (c : Option ℕ) (f : Face) → IfSome c (λ k. k < 64) → Fair (by_code c f)
+by_code_fair None f h = (omega arith, omega arith)
+by_code_fair (Some c) f h = if_unlocked_by (locked f) f c h
 
-by_locks_numbered : (f : Face) → Numbered (by_locks f)
-by_locks_numbered f = unless_locked (by_lock_bits f || not (locked f)) f (Ok Locks) tt
+by_locks_fair : (f : Face) → Fair (by_locks f)
+by_locks_fair f = unless_locked (by_lock_bits f || not (locked f)) f (Ok Locks) tt
 
-either_by : (b : Bool) (f : Face) (c : ℕ) → Numbered (cond b (by_locks f) (Ok (Settings c)))
-either_by true f c = by_locks_numbered f
-either_by false f c = tt
+either_by : (b : Bool) (f : Face) (c : ℕ) → c < 64 → Fair (cond b (by_locks f) (Ok (Settings c)))
+either_by true f c h = by_locks_fair f
+either_by false f c h = h
 
-by_either_numbered : (c : Option ℕ) (f : Face) → Numbered (by_either c f)
-by_either_numbered None f = by_locks_numbered f
-by_either_numbered (Some c) f = either_by (locked f) f c
+by_either_fair : (c : Option ℕ) (f : Face) → IfSome c (λ k. k < 64) → Fair (by_either c f)
+by_either_fair None f h = by_locks_fair f
+by_either_fair (Some c) f h = either_by (locked f) f c h
 
-settled_by : (b : Bool) (r : Result Route RunFault) → Numbered r → Numbered (unless_set b r)
+settled_by : (b : Bool) (r : Result Route RunFault) → Fair r → Fair (unless_set b r)
 settled_by true r h = tt
 settled_by false r h = h
 
-chosen_by_numbered : (c : Option ℕ) (p : Part) (t : Term) (b : Bool) (f : Face) → Numbered (chosen_by c p t b f)
-chosen_by_numbered c Jw Now b f = settled_by b (by_either c f) (by_either_numbered c f)
-chosen_by_numbered c Jw Kept b f = by_code_numbered c f
-chosen_by_numbered c Xa t b f = settled_by b (by_code c f) (by_code_numbered c f)
-chosen_by_numbered c (Other n) t b f = (omega arith, omega arith)
+chosen_by_fair : (c : Option ℕ) (p : Part) (t : Term) (b : Bool) (f : Face) → IfSome c (λ k. k < 64) → Fair (chosen_by c p t b f)
+chosen_by_fair c Jw Now b f h = settled_by b (by_either c f) (by_either_fair c f h)
+chosen_by_fair c Jw Kept b f h = by_code_fair c f h
+chosen_by_fair c Xa t b f h = settled_by b (by_code c f) (by_code_fair c f h)
+chosen_by_fair c (Other n) t b f h = (omega arith, omega arith)
 
-pub chosen_numbered : (f : Face) (w : ℕ) (t : Term) → Numbered (chosen f w t)
+pub chosen_fair : (f : Face) (w : ℕ) (t : Term) → Fair (chosen f w t)
 unfolding chosen
-chosen_numbered f w t = chosen_by_numbered (smallest (codes_of f.part) w) f.part t (eqb (protected f) w) f
+chosen_fair f w t = chosen_by_fair (smallest (codes_of f.part) w) f.part t (eqb (protected f) w) f (six_bits f.part w)
 
 -- So does a plan, and it has 126 commands at most.
 abbrev Few : Result (List Command) RunFault → Type 0
 Few (Ok cs) = length cs ≤ 126
 Few (Err e) = (11 ≤ run_number e) × (run_number e ≤ 13)
 
-in_few : (r : Result Route RunFault) (f : Face) (w : ℕ) (t : Term) → Numbered r → Few (commands_in r f w t)
+in_few : (r : Result Route RunFault) (f : Face) (w : ℕ) (t : Term) → Fair r → Few (commands_in r f w t)
 in_few (Ok r) f w t h = commands_short r f w t
 in_few (Err e) f w t h = h
 
 planned_few : (f : Face) (w : ℕ) (t : Term) → Few (planned f w t)
-planned_few f w t = in_few (chosen f w t) f w t (chosen_numbered f w t)
+planned_few f w t = in_few (chosen f w t) f w t (chosen_fair f w t)
 
 pub planned_short : (f : Face) (w : ℕ) (t : Term) (cs : List Command) → planned f w t ≡ Ok cs → length cs ≤ 126
 planned_short f w t cs e = subst Few e (planned_few f w t)

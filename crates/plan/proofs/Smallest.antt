@@ -1,5 +1,5 @@
 -- The smallest code that gives a set is the one below which none does.
-use Rattle.std.proofs.Common.{◌≡◌, ℕ, zero, suc, ◌<◌, ◌≤◌, min, cond, eqb, ◌⊎◌, IfSome, Some, None, Option, sym, refl, ap, ◌∙◌, inl, inr, arith, MatchOption}
+use Rattle.std.proofs.Common.{◌≡◌, ℕ, zero, suc, ◌<◌, ◌≤◌, min, Bool, true, false, cond, eqb, ◌⊎◌, IfSome, Some, None, Option, sym, refl, ap, ◌∙◌, inl, inr, arith, MatchOption}
 use Rattle.std.proofs.lemmas.Bool.{eq-eqb, ne_eqb, cases_lt}
 use Rattle.units.specs.Codes.{set_of}
 use Rattle.chip.specs.declared.model.Part.{Part}
@@ -39,8 +39,21 @@ pub found : (p : Part) (n w : ℕ) (r : Option ℕ) → n ≡ codes_of p →
 found p n w None e h = let f = codes_few p in sym (none_is (codes_of p) w (λ k l. h k (omega arith)))
 found p n w (Some c) e h = let f = codes_few p in let l = h.0 in sym (least_is (codes_of p) w c (omega arith) h.1 h.2)
 
-pub few : (n w : ℕ) (r : Option ℕ) →
-    MatchOption r ((k : ℕ) → k < min n 64 → set_of k ≡ w → ⊥) (λ c. (c < min n 64) × (set_of c ≡ w) × ((k : ℕ) → k < c → set_of k ≡ w → ⊥)) →
-    IfSome r (λ c. c < 64)
-few n w None h = tt
-few n w (Some c) h = let l = h.0 in omega arith
+-- It is below the codes that were looked at.
+below_by : (n : ℕ) (o : Option ℕ) (b : Bool) → IfSome o (λ c. c < n) → IfSome (or_else o (cond b (Some n) None)) (λ c. c < suc n)
+below_by n (Some c) b h = omega arith
+below_by n None true h = omega arith
+below_by n None false h = tt
+
+smallest_below : (n w : ℕ) → IfSome (smallest n w) (λ c. c < n)
+unfolding smallest
+smallest_below zero w = tt
+smallest_below (suc n) w = below_by n (smallest n w) (eqb (set_of n) w) (smallest_below n w)
+
+six_bits_by : (n : ℕ) (o : Option ℕ) → n ≤ 64 → IfSome o (λ c. c < n) → IfSome o (λ c. c < 64)
+six_bits_by n (Some c) f h = omega arith
+six_bits_by n None f h = tt
+
+-- Each code of a part has six bits at most.
+pub six_bits : (p : Part) (w : ℕ) → IfSome (smallest (codes_of p) w) (λ c. c < 64)
+six_bits p w = six_bits_by (codes_of p) (smallest (codes_of p) w) (codes_few p) (smallest_below (codes_of p) w)

@@ -1,2 +1,4 @@
 pub mod Plan
+pub mod Sinks
+pub mod Takers
 pub mod Written

@@ -123,16 +123,7 @@ to_lock locks w u = has w u == 1 && has locks u == 0
 abbrev pub to_unlock : ℕ → ℕ → ℕ → Bool
 to_unlock locks w u = has w u == 0 && has locks u == 1
 
--- Both sweeps: to lock by 36h, to unlock by 39h.
-abbrev pub due : Bool → ℕ → ℕ → ℕ → Bool
-due true locks w u = to_lock locks w u
-due false locks w u = to_unlock locks w u
-
-abbrev pub opcode : Bool → ℕ
-opcode true = 54
-opcode false = 57
-
--- The wanted units are locked before the others are unlocked, and WPS is raised last.
+-- The wanted units are locked before the others are unlocked, by 36h and 39h, and WPS is raised last.
 unfoldable pub lock_plan : Face → ℕ → List Command
 lock_plan f w =
     sweep (to_lock f.locks w) 54 62

@@ -1,16 +1,11 @@
 -- What writing commands into places answers and leaves.
-use Rattle.std.specs.Prelude.{◌≡◌, ℕ, ◌+◌, ◌<◌, List, length, Ok, Err, Result, MatchResult}
+use Rattle.std.specs.Prelude.{◌≡◌, ℕ, ◌<◌, List, length, Ok, Err, Result, MatchResult}
 use Rattle.chip.specs.declared.model.Command.{Command}
 use Rattle.plan.specs.declared.wish.Route.{Route}
 use Rattle.plan.specs.declared.wish.Route.TheVariants.{Nothing, Settings, Locks}
 use Rattle.places.specs.Pushed.{Added}
 use Rattle.refusals.specs.declared.RunFault.{RunFault}
 use Rattle.refusals.specs.declared.RunFault.TheVariants.{Full}
-
--- All of them stand after what was there, or there are too few places.
-abbrev pub Writes : List Command → Result (Unit {0}) RunFault → List Command → ℕ → List Command → ℕ → Type 0
-Writes cs r slots len slots' len' =
-    MatchResult r (λ _. Added cs slots len slots' len') (λ f. (f ≡ Full) × (length slots < len + length cs))
 
 -- A route by a code is by one of six bits.
 abbrev pub Codable : Route → Type 0

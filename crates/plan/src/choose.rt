@@ -1,8 +1,7 @@
 // The choice of a route.
 ghost use Rattle.plan.specs.Plan.{smallest, codes_of, by_lock_bits, locked_for_good, lock_fault, by_code, by_locks, by_either, chosen};
 ghost use Rattle.picture.specs.Protection.{protected};
-ghost use Rattle.std.specs.Prelude.{◌≡◌, ◌<◌, IfSome, IfOk};
-ghost use Rattle.plan.specs.Written.{Codable};
+ghost use Rattle.std.specs.Prelude.{◌≡◌};
 
 use crate::wish::{Route, Term, Wish};
 use chip::effect;
@@ -20,15 +19,8 @@ fn codes_of(part: Part) -> u8
     }
 }
 
-// The smallest code of the part that gives the set.
-fn code_for(part: Part, set: u64) -> Option<u8>
-    ensures value { result ≡ smallest (codes_of part) set }
-    ensures small { IfSome result (λ c. c < 64) }
-{
-    units::code_of(set, codes_of(part))
-}
-
 // Whether WPS reads 1.
+#[tactic(auto, unfolding(crate::specs::Plan::by_lock_bits))]
 pub(crate) fn has_wps(face: Face) -> bool
     ensures { result ≡ by_lock_bits face }
 {
@@ -36,6 +28,7 @@ pub(crate) fn has_wps(face: Face) -> bool
 }
 
 // Why locked registers cannot be written.
+#[tactic(auto, unfolding(crate::specs::Plan::locked_for_good))]
 fn lock_fault(face: Face) -> RunFault
     ensures { result ≡ lock_fault face }
 {
@@ -47,8 +40,7 @@ fn lock_fault(face: Face) -> RunFault
 }
 
 fn by_code(code: Option<u8>, face: Face) -> Result<Route, RunFault>
-    ensures value { result ≡ by_code code face }
-    ensures small { IfSome code (λ c. c < 64) → IfOk result Codable }
+    ensures { result ≡ by_code code face }
 {
     let Some(code) = code else {
         return Err(RunFault::NoCode);
@@ -61,8 +53,7 @@ fn by_code(code: Option<u8>, face: Face) -> Result<Route, RunFault>
 }
 
 fn by_locks(face: Face) -> Result<Route, RunFault>
-    ensures value { result ≡ by_locks face }
-    ensures small { IfOk result Codable }
+    ensures { result ≡ by_locks face }
 {
     if has_wps(face) || !effect::is_locked(face) {
         Ok(Route::Locks)
@@ -72,8 +63,7 @@ fn by_locks(face: Face) -> Result<Route, RunFault>
 }
 
 fn by_either(code: Option<u8>, face: Face) -> Result<Route, RunFault>
-    ensures value { result ≡ by_either code face }
-    ensures small { IfSome code (λ c. c < 64) → IfOk result Codable }
+    ensures { result ≡ by_either code face }
 {
     match code {
         Some(code) => if effect::is_locked(face) {
@@ -85,28 +75,44 @@ fn by_either(code: Option<u8>, face: Face) -> Result<Route, RunFault>
     }
 }
 
-// The route that a wish takes from what is read, with the set that is protected now, or why there is none.
-pub(crate) fn choose(face: Face, protected_now: u64, wish: Wish) -> Result<Route, RunFault>
-    requires { protected_now ≡ protected face }
-    ensures value { result ≡ chosen face wish.set wish.term }
-    ensures small { IfOk result Codable }
-{
-    let code = code_for(face.part, wish.set);
-    let settled = protected_now == wish.set;
-    match face.part {
-        Part::Jw => match wish.term {
-            Term::Now => if settled {
+// What is read of a chip, and what is wished of it.
+#[derive(Clone, Copy)]
+pub(crate) struct Task {
+    pub face: Face,
+    pub wish: Wish,
+}
+
+impl Task {
+    // The smallest code of the part that gives the set.
+    fn code(self) -> Option<u8>
+        ensures { result ≡ smallest (codes_of self.face.part) self.wish.set }
+    {
+        units::code_of(self.wish.set, codes_of(self.face.part))
+    }
+
+    // The route that the wish takes, with the set that is protected now, or why there is none.
+    #[tactic(auto, unfolding(crate::specs::Plan::chosen))]
+    pub(crate) fn route(self, protected_now: u64) -> Result<Route, RunFault>
+        requires { protected_now ≡ protected self.face }
+        ensures { result ≡ chosen self.face self.wish.set self.wish.term }
+    {
+        let code = self.code();
+        let settled = protected_now == self.wish.set;
+        match self.face.part {
+            Part::Jw => match self.wish.term {
+                Term::Now => if settled {
+                    Ok(Route::Nothing)
+                } else {
+                    by_either(code, self.face)
+                },
+                Term::Kept => by_code(code, self.face),
+            },
+            Part::Xa => if settled {
                 Ok(Route::Nothing)
             } else {
-                by_either(code, face)
+                by_code(code, self.face)
             },
-            Term::Kept => by_code(code, face),
-        },
-        Part::Xa => if settled {
-            Ok(Route::Nothing)
-        } else {
-            by_code(code, face)
-        },
-        Part::Other(_) => Err(RunFault::NoCode),
+            Part::Other(_) => Err(RunFault::NoCode),
+        }
     }
 }

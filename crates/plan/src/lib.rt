@@ -5,6 +5,7 @@
 mod choose;
 mod commands;
 mod planner;
+mod sink;
 pub mod wish;
 
 pub use planner::plan;

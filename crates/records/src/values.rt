@@ -1,27 +1,17 @@
 // What the fields of a record say.
-ghost use Rattle.chip.specs.Effect.{Clear, lock_bits};
+ghost use Rattle.chip.specs.Start.{Startable};
 ghost use Rattle.records.specs.Records.{chip_text};
-ghost use Rattle.records.specs.Values.{bits_in, level_in, count_in, part_in, values_in, Fair};
+ghost use Rattle.records.specs.Values.{bits_in, level_in, count_in, part_in, values_in};
 ghost use Rattle.std.specs.Prelude.{◌≡◌, ◌^◌, ◌<◌, ◌≤◌, IfOk, bit_and};
 ghost use Rattle.text.specs.Fields.{plain};
 ghost use Rattle.text.specs.Numbers.{hex_of};
 
 use crate::record::ChipFields;
 use chip::effect;
-use chip::model::{Part, Registers};
+use chip::model::{Part, Registers, Start};
 use refusals::SheetFault;
-use text::fields::{Field, same};
+use text::fields::Field;
 use text::numbers::{decimal, hex};
-
-// What a chip starts with.
-#[derive(Clone, Copy)]
-pub struct Values {
-    pub registers: Registers,
-    pub locks: u64,
-    pub wp: bool,
-    pub slow: u16,
-    pub carry: u32,
-}
 
 // Hexadecimal digits, of whose bits only these may be set.
 fn bits_in(field: Field, width: usize, bits: u64) -> Result<u64, SheetFault>
@@ -34,6 +24,16 @@ fn bits_in(field: Field, width: usize, bits: u64) -> Result<u64, SheetFault>
     } else {
         Err(SheetFault::Field { place: field.at })
     }
+}
+
+// A register: two digits, of whose bits only these may be set.
+fn register_in(field: Field, bits: u8) -> Result<u8, SheetFault>
+    ensures value { result ≡ bits_in 2 bits (plain field.entry) }
+    ensures clear { IfOk result (λ v. bit_and v bits ≡ v) }
+{
+    // Stays a cast, as those below: that two digits fit a byte is proved, and `try_from` would add a refusal that
+    // cannot come.
+    Ok(bits_in(field, 2, u64::from(bits))? as u8)
 }
 
 // A level, 0 or 1.
@@ -61,31 +61,31 @@ fn count_in(field: Field, longest: usize, most: u32) -> Result<u32, SheetFault>
 }
 
 // The part that a word names.
+// Stays a function: neither a field nor a part is of this crate, so no impl of `TryFrom` may stand here.
 pub fn part_in(field: Field) -> Result<Part, SheetFault>
     ensures { result ≡ part_in (plain field.entry) }
 {
-    if same(field.text, b"JW") {
-        Ok(Part::Jw)
-    } else if same(field.text, b"XA") {
-        Ok(Part::Xa)
-    } else {
-        Err(SheetFault::Field { place: field.at })
+    match field.text {
+        b"JW" => Ok(Part::Jw),
+        b"XA" => Ok(Part::Xa),
+        _ => Err(SheetFault::Field { place: field.at }),
     }
 }
 
 // What a chip of this part starts with.
-pub fn values_in(part: Part, fields: ChipFields) -> Result<Values, SheetFault>
+pub fn values_in(part: Part, fields: ChipFields) -> Result<Start, SheetFault>
     ensures value { result ≡ values_in part (chip_text fields.entry) }
-    ensures fair { IfOk result (Fair part) }
+    ensures fair { IfOk result (Startable part) }
 {
-    let sr1 = bits_in(fields.sr1, 2, effect::bits_of_sr1(part) as u64)? as u8;
-    let sr2 = bits_in(fields.sr2, 2, effect::bits_of_sr2(part) as u64)? as u8;
-    let sr3 = bits_in(fields.sr3, 2, effect::bits_of_sr3(part) as u64)? as u8;
-    let locks = bits_in(fields.locks, 16, effect::bits_of_locks(part))?;
+    let bits = effect::bits_of(part);
+    let sr1 = register_in(fields.sr1, bits.registers.sr1)?;
+    let sr2 = register_in(fields.sr2, bits.registers.sr2)?;
+    let sr3 = register_in(fields.sr3, bits.registers.sr3)?;
+    let locks = bits_in(fields.locks, 16, bits.locks)?;
     let wp = level_in(fields.wp)?;
     let slow = count_in(fields.slow, 4, 1000)? as u16;
     let carry = count_in(fields.carry, 7, 1_000_000)?;
-    Ok(Values {
+    Ok(Start {
         registers: Registers { sr1, sr2, sr3 },
         locks,
         wp,
@@ -95,6 +95,7 @@ pub fn values_in(part: Part, fields: ChipFields) -> Result<Values, SheetFault>
 }
 
 // A command's code: two digits.
+// Stays beside the address: a width that fits its type is plainer than one function over both.
 pub fn code_in(field: Field) -> Result<u8, SheetFault>
     ensures { result ≡ hex_of 2 (plain field.entry) }
 {

@@ -11,7 +11,7 @@ ghost use Rattle.refusals.specs.declared.SheetFault.TheVariants.{Run};
 ghost use Rattle.std.specs.Prelude.{◌≡◌};
 
 // What the cable may answer in place of an answer.
-#[derive(Clone, Copy)]
+#[derive(Clone, Copy, Debug, PartialEq, Eq)]
 pub enum CableFault {
     // The cable carries nothing any more.
     Down,
@@ -20,7 +20,7 @@ pub enum CableFault {
 }
 
 // What a call on a session may refuse, or fail with.
-#[derive(Clone, Copy)]
+#[derive(Clone, Copy, Debug, PartialEq, Eq)]
 pub enum RunFault {
     // The code is none of those that can be judged.
     Code,
@@ -51,7 +51,7 @@ pub enum RunFault {
 }
 
 // What a line of a sheet may be refused for.
-#[derive(Clone, Copy)]
+#[derive(Clone, Copy, Debug, PartialEq, Eq)]
 pub enum SheetFault {
     // The line is too long, or has a byte that no line may have: where.
     Bytes { place: usize },
@@ -70,17 +70,26 @@ pub enum SheetFault {
 }
 
 // A cable's fault beside the count of commands carried before it.
-#[derive(Clone, Copy)]
+#[derive(Clone, Copy, Debug, PartialEq, Eq)]
 pub struct Sent {
     pub fault: CableFault,
     pub carried: usize,
 }
 
 // A run's fault beside the place in the line that is told.
-#[derive(Clone, Copy)]
+#[derive(Clone, Copy, Debug, PartialEq, Eq)]
 pub struct Placed {
     pub fault: RunFault,
     pub place: usize,
+}
+
+// What fails before any command was sent.
+impl From<CableFault> for RunFault {
+    ghost from_gives = { λ f r. r ≡ Cable f 0 };
+
+    fn from(fault: CableFault) -> RunFault {
+        RunFault::Cable { fault, carried: 0 }
+    }
 }
 
 impl From<Sent> for RunFault {
@@ -105,6 +114,7 @@ impl From<Placed> for SheetFault {
     }
 }
 
+// Stays a method, here and for the other two: the numbers are the sheet's, and `u8::from(fault)` would not say of what.
 impl CableFault {
     // The number by which this fault is told.
     pub fn number(self) -> u8

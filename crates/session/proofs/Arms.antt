@@ -1,5 +1,6 @@
 -- Every plan begins with a command that arms.
-use Rattle.std.proofs.Common.{◌≡◌, ℕ, zero, suc, Bool, true, false, cond, not, ◌||◌, eqb, List, [], ◌∷◌, ◌++◌, Some, None, Ok, Err, Option, Result, sym, refl, subst, arith}
+use Rattle.std.proofs.lemmas.Bool.{cond_both}
+use Rattle.std.proofs.Common.{rules, ◌≡◌, ℕ, zero, suc, Bool, cond, not, ◌||◌, eqb, List, [], ◌∷◌, ◌++◌, Some, None, Ok, Err, Option, Result, sym, refl, subst}
 use Rattle.chip.specs.Effect.{order_of, locked}
 use Rattle.chip.specs.declared.model.Command.{Command}
 use Rattle.chip.specs.declared.model.Face.{Face}
@@ -30,10 +31,6 @@ arms_append : (p : Part) (xs ys : List Command) → Arms p xs → Arms p ys → 
 arms_append p [] ys h k = k
 arms_append p (x ∷ xs) ys h k = h
 
-arms_either : (p : Part) (b : Bool) (xs ys : List Command) → Arms p xs → Arms p ys → Arms p (cond b xs ys)
-arms_either p true xs ys h k = h
-arms_either p false xs ys h k = k
-
 arms_first : (t : Term) → IsArm (order_of Jw (arm t))
 unfolding order_of
 arms_first Now = tt
@@ -54,54 +51,46 @@ unfolding sweep
 arms_sweep test code zero = tt
 arms_sweep test code (suc n) =
     arms_append Jw (sweep test code n) (cond (test n) (at_unit code n) []) (arms_sweep test code n)
-    (arms_either Jw (test n) (at_unit code n) [] (arms_unit code n) tt)
+    (cond_both (test n) (at_unit code n) [] (Arms Jw) (λ e. arms_unit code n) (λ e. tt))
 
 arms_locks : (f : Face) (w : ℕ) → Arms Jw (lock_plan f w)
 unfolding lock_plan
 arms_locks f w =
     arms_append Jw (sweep (to_lock f.locks w) 54 62) _ (arms_sweep (to_lock f.locks w) 54 62)
     (arms_append Jw (sweep (to_unlock f.locks w) 57 62) _ (arms_sweep (to_unlock f.locks w) 57 62)
-    (arms_either Jw (by_lock_bits f) [] _ tt (arms_first Now)))
+    (cond_both (by_lock_bits f) [] _ (Arms Jw) (λ e. tt) (λ e. arms_first Now)))
 
 -- The route that is taken, if one is, begins so.
 abbrev Starts : Face → ℕ → Term → Result Route RunFault → Type 0
 Starts f w t (Ok r) = Arms f.part (commands_of r f w t)
 Starts f w t (Err e) = Unit {0}
 
-starts_either : (f : Face) (w : ℕ) (t : Term) (b : Bool) (x y : Result Route RunFault) → Starts f w t x → Starts f w t y →
-    Starts f w t (cond b x y)
-starts_either f w t true x y h k = h
-starts_either f w t false x y h k = k
-
 starts_code : (f : Face) (w : ℕ) (t : Term) (c : Option ℕ) → Starts f w t (by_code c f)
 starts_code f w t None = tt
 starts_code f w t (Some c) =
-    starts_either f w t (locked f) (Err (lock_fault f)) (Ok (Settings c)) tt (arms_settings f.part t f c)
+    cond_both (locked f) (Err (lock_fault f)) (Ok (Settings c)) (Starts f w t) (λ e. tt) (λ e. arms_settings f.part t f c)
 
 starts_locks : (f : Face) (w : ℕ) (t : Term) → f.part ≡ Jw → Starts f w t (by_locks f)
 starts_locks f w t e =
-    starts_either f w t (by_lock_bits f || not (locked f)) (Ok Locks) (Err (lock_fault f))
-    (subst (λ (p : Part). Arms p (lock_plan f w)) (sym e) (arms_locks f w)) tt
+    cond_both (by_lock_bits f || not (locked f)) (Ok Locks) (Err (lock_fault f)) (Starts f w t)
+    (λ i. subst (λ p. Arms p (lock_plan f w)) (sym e) (arms_locks f w)) (λ i. tt)
 
 starts_any : (f : Face) (w : ℕ) (t : Term) (c : Option ℕ) → f.part ≡ Jw → Starts f w t (by_either c f)
 starts_any f w t None e = starts_locks f w t e
 starts_any f w t (Some c) e =
-    starts_either f w t (locked f) (by_locks f) (Ok (Settings c)) (starts_locks f w t e) (arms_settings f.part t f c)
+    cond_both (locked f) (by_locks f) (Ok (Settings c)) (Starts f w t) (λ i. starts_locks f w t e) (λ i. arms_settings f.part t f c)
 
 starts_chosen : (f : Face) (w : ℕ) (t : Term) (c : Option ℕ) (p : Part) (u : Term) (b : Bool) → f.part ≡ p →
     Starts f w t (chosen_by c p u b f)
-starts_chosen f w t c Jw Now b e = starts_either f w t b (Ok Nothing) (by_either c f) tt (starts_any f w t c e)
+starts_chosen f w t c Jw Now b e = cond_both b (Ok Nothing) (by_either c f) (Starts f w t) (λ i. tt) (λ i. starts_any f w t c e)
 starts_chosen f w t c Jw Kept b e = starts_code f w t c
-starts_chosen f w t c Xa u b e = starts_either f w t b (Ok Nothing) (by_code c f) tt (starts_code f w t c)
+starts_chosen f w t c Xa u b e = cond_both b (Ok Nothing) (by_code c f) (Starts f w t) (λ i. tt) (λ i. starts_code f w t c)
 starts_chosen f w t c (Other n) u b e = tt
-
-inner : (x y : List Command) → ◌≡◌ {A = Result (List Command) RunFault} (Ok x) (Ok y) → x ≡ y
-inner x y e = cc
 
 starts_arms : (f : Face) (w : ℕ) (t : Term) (r : Result Route RunFault) (cs : List Command) → Starts f w t r → commands_in r f w t ≡ Ok cs →
     Arms f.part cs
-starts_arms f w t (Ok r) cs h e = subst (Arms f.part) (inner (commands_of r f w t) cs e) h
-starts_arms f w t (Err x) cs h e = let z : ◌≡◌ {A = ℕ} 0 1 = cc in let n : ⊥ = omega arith in elim n [ ]
+starts_arms f w t (Ok r) cs h e = let same : commands_of r f w t ≡ cs = cc in subst (Arms f.part) same h
+starts_arms f w t (Err x) cs h e = search rules
 
 pub arms_planned : (f : Face) (w : ℕ) (t : Term) (cs : List Command) → planned f w t ≡ Ok cs → Arms f.part cs
 unfolding chosen

@@ -1,5 +1,5 @@
 -- What a reach is good for.
-use Rattle.std.proofs.Common.{◌≡◌, ℕ, ◌^◌, ◌<◌, false, List, Some, None, Ok, Option, sym, refl, ap, ◌∙◌, subst, arith}
+use Rattle.std.proofs.Common.{rules, ◌≡◌, ℕ, ◌^◌, ◌<◌, false, List, Some, None, Ok, Option, sym, refl, ap, ◌∙◌, subst}
 use Rattle.units.specs.Ranges.{wished, first_failing, inside, aligned, unless, union}
 use Rattle.units.specs.declared.ranges.Range.{Range}
 use Rattle.units.specs.declared.ranges.RangeFault.TheVariants.{Beyond, Cut}
@@ -17,9 +17,9 @@ use Rattle.session.proofs.Traced.{answered}
 -- The set of ranges is a set of the 62 units.
 small_by : (rs : List Range) (a b : Option ℕ) (set : ℕ) → first_failing inside rs ≡ a → first_failing aligned rs ≡ b →
     ranged (unless a Beyond (unless b Cut (Ok (union rs)))) ≡ Ok set → set < 2 ^ 62
-small_by rs (Some i) b set p q e = let z : ◌≡◌ {A = ℕ} 0 1 = cc in let n : ⊥ = omega arith in elim n [ ]
-small_by rs None (Some i) set p q e = let z : ◌≡◌ {A = ℕ} 0 1 = cc in let n : ⊥ = omega arith in elim n [ ]
-small_by rs None None set p q e = let f : union rs ≡ set = cc in subst (λ m. m < 2 ^ 62) f (union_right rs p q).small
+small_by rs (Some i) b set p q e = search rules
+small_by rs None (Some i) set p q e = search rules
+small_by rs None None set p q e = let same : union rs ≡ set = cc in subst (λ m. m < 2 ^ 62) same (union_right rs p q).small
 
 small : (rs : List Range) (set : ℕ) → ranged (wished rs) ≡ Ok set → set < 2 ^ 62
 small rs set e = small_by rs (first_failing inside rs) (first_failing aligned rs) set refl refl e

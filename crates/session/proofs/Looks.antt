@@ -1,5 +1,5 @@
 -- The questions of a look, put together.
-use Rattle.std.proofs.Common.{◌≡◌, ℕ, ◌-◌, ◌<◌, ◌≤◌, true, cond, eqb, sym, refl, ap, ◌∙◌, arith, eq-eqb}
+use Rattle.std.proofs.Common.{rules, ◌≡◌, ℕ, ◌-◌, ◌<◌, ◌≤◌, true, cond, eqb, sym, refl, ap, ◌∙◌, arith, eq-eqb}
 use lib.Bits.{bit_and}
 use Rattle.chip.specs.Effect.{bits2, bits3}
 use Rattle.chip.specs.Step.{asked, charged, Sound}
@@ -44,9 +44,7 @@ rest_found s s1 s2 t v w l h z a b d =
     let cut3 = ap (λ x. bit_and x 255) sr3 ∙ cut s.face.working.sr3 (bits3 s.face.part) h.face.0.1.1 (three_bytes s.face.part) in (
       omega (arith, d.0, a.0),
       (
-        ap (λ x. record { sr2 = x; sr3 = bit_and w 255; locks = l }) cut2
-            ∙ ap (λ x. record { sr2 = s.face.working.sr2; sr3 = x; locks = l }) cut3
-            ∙ ap (λ x. record { sr2 = s.face.working.sr2; sr3 = s.face.working.sr3; locks = x }) locks,
+        search rules,
         d.1.1 ∙ ap (spent 62) e2 ∙ counting_same _ _ _ _ s (omega arith) (omega arith),
       ),
     )

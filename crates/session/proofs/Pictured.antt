@@ -1,8 +1,8 @@
 -- The answers of a look make the chip's own face.
-use Rattle.std.proofs.Common.{◌≡◌, ℕ, ◌+◌, ◌*◌, ◌/◌, ◌%◌, ◌<◌, Bool, false, cond, eqb, sym, refl, ap, ◌∙◌, subst, arith}
+use Rattle.std.proofs.Common.{rules, ◌≡◌, ℕ, ◌+◌, ◌*◌, ◌/◌, ◌%◌, ◌<◌, Bool, false, cond, eqb, sym, refl, ap, ◌∙◌, subst, arith}
 use lib.Bits.{bit_and, and_le_r, and_zero_r}
 use Rattle.units.proofs.Tests.{same_below2}
-use Rattle.chip.specs.Effect.{bits1, bits2, bits3, lock_bits, Plain}
+use Rattle.chip.specs.Effect.{bits1, Plain}
 use Rattle.chip.specs.Step.{wel, Known, Sound}
 use Rattle.chip.specs.declared.model.State.{State}
 use Rattle.session.specs.Asked.{idle_status}
@@ -64,38 +64,23 @@ seen_right : (p : Part) (r : Registers) (m : ℕ) (h : Bool) (a : Arming) → Kn
     Plain (record { part = p; working = r; locks = m; wp = h }) →
     seen p (r.sr1 + 2 * wel a) (record { sr2 = r.sr2; sr3 = r.sr3; locks = m }) h ≡ made p r.sr1 r.sr2 r.sr3 m h (shown a)
 seen_right p r m h a k e =
-    let s2 = bit_and r.sr2 (bits2 p) in
-    let s3 = bit_and r.sr3 (bits3 p) in
-    let l = bit_and m (lock_bits p) in
-    let w : Arming = cond (eqb ((r.sr1 + 2 * wel a) / 2 % 2) 1) Stored Disarmed in
-    ap (λ x. made p x s2 s3 l h w) (sr1_cut p r.sr1 (wel a) k e.0.0 (small a))
-    ∙ ap (λ x. made p r.sr1 x s3 l h w) e.0.1.0
-    ∙ ap (λ x. made p r.sr1 r.sr2 x l h w) e.0.1.1
-    ∙ ap (λ x. made p r.sr1 r.sr2 r.sr3 x h w) e.1
-    ∙ ap (λ x. made p r.sr1 r.sr2 r.sr3 m h (cond (eqb x 1) Stored Disarmed)) (wel_read p r.sr1 (wel a) k e.0.0 (small a))
-    ∙ ap (λ x. made p r.sr1 r.sr2 r.sr3 m h x) (latch a)
-
--- The W25X16A has nothing beyond SR1.
-rest_none : (r : Registers) (m : ℕ) (h : Bool) → Plain (record { part = Xa; working = r; locks = m; wp = h }) →
-    ◌≡◌ {A = Rest} (record { sr2 = 0; sr3 = 0; locks = 0 }) (record { sr2 = r.sr2; sr3 = r.sr3; locks = m })
-rest_none r m h e =
-    ap (λ x. record { sr2 = x; sr3 = 0; locks = 0 }) (sym (and_zero_r r.sr2) ∙ e.0.1.0)
-    ∙ ap (λ x. record { sr2 = r.sr2; sr3 = x; locks = 0 }) (sym (and_zero_r r.sr3) ∙ e.0.1.1)
-    ∙ ap (λ x. record { sr2 = r.sr2; sr3 = r.sr3; locks = x }) (sym (and_zero_r m) ∙ e.1)
+    let sr1 = sr1_cut p r.sr1 (wel a) k e.0.0 (small a) in
+    let arming = ap (λ x. cond (eqb x 1) Stored Disarmed) (wel_read p r.sr1 (wel a) k e.0.0 (small a)) ∙ latch a in
+    search rules
 
 -- The picture of a chip, from the answers that were given.
 pub pictured : (s : State) (p : Part) (v : ℕ) (x : Rest) (h : Bool) (q : Reading) → Sound s → Known p → s.face.part ≡ p →
     v ≡ idle_status s → x ≡ rest_of s → h ≡ s.face.wp → q ≡ seen p v x h → q ≡ read_of s
 pictured s p v x h q d k e f g i j =
-    j ∙ ap (λ y. seen y v x h) (sym e) ∙ ap (λ y. seen s.face.part y x h) f ∙ ap (λ y. seen s.face.part (idle_status s) y h) g
-    ∙ ap (λ y. seen s.face.part (idle_status s) (rest_of s) y) i
-    ∙ seen_right s.face.part s.face.working s.face.locks s.face.wp s.arming (subst Known (sym e) k) d.face
+    let right = seen_right s.face.part s.face.working s.face.locks s.face.wp s.arming (subst Known (sym e) k) d.face in
+    search rules
 
+-- The W25X16A has nothing beyond SR1.
 none_beyond : (p : Part) (r : Registers) (m : ℕ) (h : Bool) → p ≡ Xa → Plain (record { part = p; working = r; locks = m; wp = h }) →
     ◌≡◌ {A = Rest} (record { sr2 = 0; sr3 = 0; locks = 0 }) (record { sr2 = r.sr2; sr3 = r.sr3; locks = m })
-none_beyond Jw r m h e d = let z : ◌≡◌ {A = ℕ} 0 1 = cc in let n : ⊥ = omega arith in elim n [ ]
-none_beyond Xa r m h e d = rest_none r m h d
-none_beyond (Other n) r m h e d = let z : ◌≡◌ {A = ℕ} 0 1 = cc in let n : ⊥ = omega arith in elim n [ ]
+none_beyond Jw r m h e d = search rules
+none_beyond Xa r m h e d = search (rules, and_zero_r r.sr2, and_zero_r r.sr3, and_zero_r m)
+none_beyond (Other n) r m h e d = search rules
 
 pub nothing_beyond : (s : State) → Sound s → s.face.part ≡ Xa → ◌≡◌ {A = Rest} (record { sr2 = 0; sr3 = 0; locks = 0 }) (rest_of s)
 nothing_beyond s d e = none_beyond s.face.part s.face.working s.face.locks s.face.wp e d.face

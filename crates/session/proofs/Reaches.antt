@@ -1,5 +1,5 @@
 -- A plan that was sent is what a reach promises.
-use Rattle.std.proofs.Common.{◌≡◌, ℕ, ◌≤◌, false, cond, leb, List, [], length, take, Some, Ok, Err, Option, Result, sym, refl, ap, ◌∙◌, subst, arith}
+use Rattle.std.proofs.Common.{rules, ◌≡◌, ℕ, ◌≤◌, false, List, [], length, take, Some, Ok, Err, Option, Result, sym, refl, ap, ◌∙◌, subst, arith}
 use Rattle.std.proofs.lemmas.List.{append-nil}
 use Rattle.std.proofs.lemmas.Bool.{le-leb}
 use Rattle.units.specs.Ranges.{wished}
@@ -14,9 +14,9 @@ use Rattle.plan.specs.Plan.{planned}
 use Rattle.plan.specs.Written.{Plans}
 use Rattle.plan.specs.declared.wish.Term.{Term}
 use Rattle.refusals.specs.declared.RunFault.{RunFault}
-use Rattle.refusals.specs.declared.RunFault.TheVariants.{Suspended, Cable, Full}
+use Rattle.refusals.specs.declared.RunFault.TheVariants.{Cable}
 use Rattle.refusals.specs.declared.Sent.{Sent}
-use Rattle.session.specs.Reach.{ranged, and_if, seen_in, reach_plan, counted, sent_from, ReachedBy, Reached}
+use Rattle.session.specs.Reach.{ranged, reach_plan, counted, sent_from, ReachedBy, Reached}
 use Rattle.session.specs.Send.{World, sending}
 use Rattle.session.specs.View.{View}
 
@@ -35,11 +35,7 @@ front slots cs h = ap (λ ys. take (length cs) (laid slots 0 ys)) (sym (append-n
 plan_found : (rs : List Range) (t : Term) (room w : ℕ) (p : Option Reading) (x : Reading) (cs : List Command) → ranged (wished rs) ≡ Ok w →
     p ≡ Some x → suspended x.face ≡ false → planned x.face w t ≡ Ok cs → length cs ≤ room → reach_plan rs t room p ≡ Ok cs
 plan_found rs t room w p x cs a b d e h =
-    ap (λ y. and_if y (λ w. and_if (seen_in p) (λ x. cond (suspended x.face) (Err Suspended) (and_if (planned x.face w t) (λ cs. cond (leb (length cs) room) (Ok cs) (Err Full)))))) a
-    ∙ ap (λ y. and_if (seen_in y) (λ x. cond (suspended x.face) (Err Suspended) (and_if (planned x.face w t) (λ cs. cond (leb (length cs) room) (Ok cs) (Err Full))))) b
-    ∙ ap (λ y. cond y (Err Suspended) (and_if (planned x.face w t) (λ cs. cond (leb (length cs) room) (Ok cs) (Err Full)))) d
-    ∙ ap (λ y. and_if y (λ cs. cond (leb (length cs) room) (Ok cs) (Err Full))) e
-    ∙ ap (λ y. cond y (Ok cs) (Err Full)) (le-leb (length cs) room h)
+    let fits = le-leb (length cs) room h in search rules
 
 abbrev pub made : View → World → View
 made v u = record { state = u.state; number = v.number; picture = Some u.reading }
@@ -49,19 +45,19 @@ pub sent_reach : (rs : List Range) (t : Term) (v : View) (slots slots' : List Co
     suspended x.face ≡ false → planned x.face w t ≡ p → Plans p (Ok n) slots slots' →
     (ys : List Command) → ys ≡ take n slots' →
     (Known v.state.face.part → sending ys (record { state = v.state; reading = x }) ≡ (o, u)) →
-    Reached rs t v slots (told n o) (made v u) slots'
-sent_reach rs t v slots slots' n w x (Err e) o u a b d f q ys g run =
-    let z = q.0 in let k : ◌≡◌ {A = ℕ} 0 1 = cc in let m : ⊥ = omega arith in elim m [ ]
-sent_reach rs t v slots slots' n w x (Ok cs) o u a b d f q ys g run =
+    (r : Result ℕ RunFault) → r ≡ told n o → Reached rs t v slots r (made v u) slots'
+sent_reach rs t v slots slots' n w x (Err e) o u a b d f q ys g run r e' =
+    search rules
+sent_reach rs t v slots slots' n w x (Ok cs) o u a b d f q ys g run r e =
     let room : length cs ≤ length slots = omega (arith, q.1.room) in
     let found = plan_found rs t (length slots) w v.picture x cs a b d f room in
     let whole : ys ≡ cs = g ∙ ap (λ i. take i slots') q.0 ∙ ap (take (length cs)) q.1.all ∙ front slots cs room in
-    subst (λ y. ReachedBy y v.picture v slots (told n o) (made v u) slots') (sym found)
-    (subst (λ y. ReachedBy (Ok cs) y v slots (told n o) (made v u) slots') (sym b) (
+    subst (λ y. ReachedBy y v.picture v slots r (made v u) slots') (sym found)
+    (subst (λ y. ReachedBy (Ok cs) y v slots r (made v u) slots') (sym b) (
       q.1.all,
       λ known.
           let sent : sent_from cs v x ≡ (o, u) = ap (λ ys. sending ys (record { state = v.state; reading = x })) (sym whole) ∙ run known in (
-            told_counted n cs o q.0 ∙ ap (λ y. counted cs y.0) (sym sent),
+            e ∙ told_counted n cs o q.0 ∙ ap (λ y. counted cs y.0) (sym sent),
             ap (λ y. made v y.1) (sym sent),
           ),
     ))

@@ -1,7 +1,6 @@
 -- Questions in a row: what each leaves, and what the reads of SR1 tell of BUSY.
-use Rattle.std.proofs.Common.{◌≡◌, ℕ, ◌+◌, ◌-◌, ◌*◌, ◌/◌, ◌%◌, ◌^◌, ◌<◌, ◌≤◌, min, Bool, true, false, cond, eqb, ltb, sym, refl, ap, ◌∙◌, le_refl, mod-eq_of_lt, arith, eq-eqb, eqb-true}
+use Rattle.std.proofs.Common.{◌≡◌, ℕ, ◌+◌, ◌-◌, ◌*◌, ◌/◌, ◌%◌, ◌^◌, ◌<◌, ◌≤◌, Bool, true, false, cond, eqb, ltb, sym, refl, ap, ◌∙◌, subst, le_refl, mod-eq_of_lt, arith, rules, eq-eqb, eqb-true}
 use borrow.Author.Tests.{eqb-false}
-use Rattle.std.proofs.lemmas.Bool.{ne_eqb}
 use lib.Bits.{bit_and, and_step, and_le_r}
 use Rattle.std.proofs.lemmas.Nat.{mod-pow-add, pow_below, pow_pos, mod_below, mul-le}
 use Rattle.units.specs.Units.{has}
@@ -11,7 +10,9 @@ use Rattle.chip.specs.declared.model.Part.{Part}
 use Rattle.chip.specs.declared.model.Part.TheVariants.{Jw, Xa, Other}
 use Rattle.chip.specs.declared.model.State.{State}
 use Rattle.chip.specs.declared.model.Question.TheVariants.{Status1, Lock}
-use Rattle.session.specs.Asked.{spent, idle_status, carried_reads}
+use Rattle.refusals.specs.declared.CableFault.TheVariants.{Down}
+use Rattle.session.specs.Asked.{spent, idle_status, reads, GivesUp}
+use Rattle.session.specs.declared.asking.WaitFault.{WaitFault}
 
 -- The same state but for busy and carry.
 abbrev pub counting : ℕ → ℕ → State → State
@@ -19,9 +20,6 @@ counting b k s = record { face = s.face; stored = s.stored; arming = s.arming; b
 
 pub counting_same : (b c k l : ℕ) (s : State) → b ≡ c → k ≡ l → counting b k s ≡ counting c l s
 counting_same b c k l s e f = ap (λ x. counting x k s) e ∙ ap (λ x. counting c x s) f
-
-pub spent_more : (n m : ℕ) (s : State) → spent m (spent n s) ≡ spent (n + m) s
-spent_more n m s = counting_same _ _ _ _ s (omega arith) (omega arith)
 
 spent_read : (n : ℕ) (s : State) → polled Status1 (charged (spent n s)) ≡ spent (n + 1) s
 spent_read n s = counting_same _ _ _ _ s (omega arith) (omega arith)
@@ -75,18 +73,15 @@ wait_goes s x t i v h e a b q n =
     let k : x.carry ≡ s.carry - i = ap (λ y. y.carry) e in
     (q.1.1 ∙ ap (λ y. polled Status1 (charged y)) e ∙ spent_read i s, (omega (arith, q.0), omega arith))
 
--- What is noted of BUSY: 0 where the wait ends, and 1 after a read that showed it.
-busy_by : (s : State) (was : Bool) (b : Bool) → ltb s.busy 100 ≡ b → 0 < s.carry →
-    false ≡ cond (eqb (min s.carry (cond b (s.busy + 1) 100)) 0) was false
-busy_by s was true e h =
-    sym (ap (λ t. cond t was false) (ne_eqb (min s.carry (s.busy + 1)) 0 (λ z. let n : ⊥ = omega arith in n)))
-busy_by s was false e h = sym (ap (λ t. cond t was false) (ne_eqb (min s.carry 100) 0 (λ z. let n : ⊥ = omega arith in n)))
-
-pub busy_last : (s : State) (was : Bool) → s.busy < 100 → s.busy < s.carry → false ≡ cond (eqb (carried_reads s) 0) was false
-busy_last s was h k = busy_by s was (ltb s.busy 100) refl (omega arith)
-
-pub busy_more : (n : ℕ) (was : Bool) → true ≡ cond (eqb (n + 1) 0) was true
-busy_more n was = sym (ap (λ t. cond t was true) (ne_eqb (n + 1) 0 (λ z. let n : ⊥ = omega arith in n)))
+-- The cable is down before this one.
+pub wait_fails : (s x t : State) (i : ℕ) (f : WaitFault) → x ≡ spent i s → i ≤ s.carry → i ≤ s.busy → i < 100 →
+    (x.carry ≡ 0) × (t ≡ x) → f ≡ record { fault = Down; busy = ltb 0 i } → GivesUp s f.fault t × (f.busy ≡ ltb 0 s.carry)
+wait_fails s x t i f e a b l q g =
+    let k : x.carry ≡ s.carry - i = ap (λ y. y.carry) e in
+    let same : i ≡ s.carry = omega (arith, q.0) in
+    let few : s.carry < reads s = search rules in
+    subst (λ y. GivesUp s y.fault t × (y.busy ≡ ltb 0 s.carry)) (sym g)
+    ((few, q.1 ∙ e ∙ ap (λ n. spent n s) same), ap (ltb 0) same)
 
 -- A chip that is not busy answers its lock bits.
 lock_answer : (s x : State) (i v : ℕ) → s.busy ≡ 0 → x ≡ spent i s → v ≡ asked (Lock i) x → v ≡ has s.face.locks i

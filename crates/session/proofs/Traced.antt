@@ -1,5 +1,6 @@
 -- What a sending does is what its exchanges do.
-use Rattle.std.proofs.Common.{◌≡◌, ℕ, zero, suc, ◌+◌, ◌-◌, ◌^◌, ◌<◌, ◌≤◌, min, Bool, true, false, cond, eqb, ltb, ◌⊎◌, List, [], ◌∷◌, ◌++◌, length, replicate, Ok, Err, Result, sym, refl, ap, ◌∙◌, subst, inl, inr, arith}
+use Rattle.std.proofs.Math.Nat.{min-le_left}
+use Rattle.std.proofs.Common.{rules, ◌≡◌, ℕ, zero, suc, ◌+◌, ◌-◌, ◌^◌, ◌<◌, ◌≤◌, min, Bool, true, false, cond, eqb, ltb, ◌⊎◌, List, [], ◌∷◌, ◌++◌, length, replicate, Ok, Err, Result, sym, refl, ap, ◌∙◌, subst, inl, inr, arith}
 use Rattle.std.proofs.lemmas.Bool.{eqb-false, eq-eqb, ne_eqb, ltb-false}
 use Rattle.chip.proofs.Steps.{stepping}
 use Rattle.chip.specs.Effect.{suspended, order_of, accepts, face_after, arming_after}
@@ -41,7 +42,7 @@ record Run (ms : List Command) (p : Result (Unit {0}) Sent × World) (xs : List 
   all : p.0 ≡ Ok tt → (ms ≡ commands xs) × (length xs ≤ s.carry)
 
 not_well : (f : Sent) → ◌≡◌ {A = Result (Unit {0}) Sent} (Err f) (Ok tt) → ⊥
-not_well f h = let z : ◌≡◌ {A = ℕ} 0 1 = cc in omega arith
+not_well f h = search rules
 
 -- Nothing more is made once one failed, or there is none.
 failed : (ms : List Command) (f : Sent) (v : World) → v.reading.face ≡ v.state.face → Run ms (Err f, v) [] v.state
@@ -80,13 +81,10 @@ reads_first (suc n) ms p xs s h k =
     (reads_first n ms p xs (spent 1 s) (omega arith)
     (subst (λ (x : State). Run ms p xs x) (counting_same _ _ _ _ s (omega arith) (omega arith)) k))
 
-min_first : (a b : ℕ) → min a b ≤ a
-min_first a b = omega arith
-
 -- A wait before others.
 wait_first : (ms : List Command) (p : Result (Unit {0}) Sent × World) (xs : List Exchange) (s : State) →
     Run ms p xs (spent (carried_reads s) s) → Run ms p (wait_reads s ++ xs) s
-wait_first ms p xs s k = reads_first (carried_reads s) ms p xs s (min_first s.carry (reads s)) k
+wait_first ms p xs s k = reads_first (carried_reads s) ms p xs s (min-le_left s.carry (reads s)) k
 
 -- A command before others.
 sent_first : (m : Command) (ms : List Command) (p : Result (Unit {0}) Sent × World) (xs : List Exchange) (s : State) →
@@ -104,7 +102,7 @@ sent_first m ms p xs s h z r =
 
 -- A wait that ends well leaves the chip not busy.
 not_down : (f : CableFault) → ◌≡◌ {A = Result (Unit {0}) CableFault} (Err f) (Ok tt) → ⊥
-not_down f h = let z : ◌≡◌ {A = ℕ} 0 1 = cc in omega arith
+not_down f h = search rules
 
 idle_by : (a b : Bool) (k n : ℕ) → ltb n 100 ≡ b → ltb k (cond b (n + 1) 100) ≡ a →
     ◌≡◌ {A = Result (Unit {0}) CableFault} (cond a (Err Down) (cond b (Ok tt) (Err Busy))) (Ok tt) → n - min k (cond b (n + 1) 100) ≡ 0
@@ -131,7 +129,7 @@ order_idle (Arm b) a s e h z = z
 order_idle (Change l) a s e h z = z
 order_idle (Write x) Disarmed s e h z = ap (λ (c : Arming). cond (eqb (wel c) 1) s.slow s.busy) e ∙ z
 order_idle (Write x) Volatile s e h z = ap (λ (c : Arming). cond (eqb (wel c) 1) s.slow s.busy) e ∙ z
-order_idle (Write x) Stored s e h z = let y : ◌≡◌ {A = ℕ} 0 1 = cc in let n : ⊥ = omega arith in elim n [ ]
+order_idle (Write x) Stored s e h z = search rules
 
 same_by : (t : Bool) (o : Order) (s : State) (b : Bool) → s.busy ≡ 0 →
     SameStep (cond t (record { face = face_after o s.face; arming = arming_after o s.arming; busy = b }) (showing_with s s.arming b))

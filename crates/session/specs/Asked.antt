@@ -5,6 +5,7 @@ use Rattle.chip.specs.declared.model.Question.{Question}
 use Rattle.chip.specs.declared.model.State.{State}
 use Rattle.refusals.specs.declared.CableFault.{CableFault}
 use Rattle.refusals.specs.declared.CableFault.TheVariants.{Down, Busy}
+use Rattle.session.specs.declared.asking.WaitFault.{WaitFault}
 
 -- The state once n questions are carried, SR1 alone being asked while BUSY shows.
 abbrev pub spent : ℕ → State → State
@@ -29,10 +30,12 @@ abbrev pub GivesUp : State → CableFault → State → Type 0
 GivesUp s Down t = (s.carry < reads s) × (t ≡ spent s.carry s)
 GivesUp s Busy t = (100 ≤ s.busy) × ((100 ≤ s.carry) × (t ≡ spent 100 s))
 
--- A wait ends when SR1 shows BUSY 0; it gives up on the hundredth read that does not, or when the cable is down.
-abbrev pub Waits : State → Result ℕ CableFault → State → Type 0
+-- A wait ends when SR1 shows BUSY 0; it gives up on the hundredth read that does not, or when the cable is down, and then
+-- BUSY was seen if there was a read.
+abbrev pub Waits : State → Result ℕ WaitFault → State → Type 0
 Waits s r t =
-    MatchResult r (λ v. (s.busy < 100) × ((s.busy < s.carry) × ((v ≡ idle_status s) × (t ≡ spent (s.busy + 1) s)))) (λ f. GivesUp s f t)
+    MatchResult r (λ v. (s.busy < 100) × ((s.busy < s.carry) × ((v ≡ idle_status s) × (t ≡ spent (s.busy + 1) s))))
+    (λ f. GivesUp s f.fault t × (f.busy ≡ nat_lt 0 s.carry))
 
 -- One question, as the chip's step answers it.
 abbrev pub Asks : Question → State → Result ℕ CableFault → State → Type 0

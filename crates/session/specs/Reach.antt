@@ -1,9 +1,8 @@
 -- What a reach answers, and what it leaves of the chip, the picture and the places.
 use Rattle.std.specs.Prelude.{◌≡◌, ℕ, cond, List, length, Some, None, Ok, Err, Option, Result, nat_le}
-use Rattle.units.specs.Ranges.{wished}
+use Rattle.units.specs.Ranges.{range_fault, wished}
 use Rattle.units.specs.declared.ranges.Range.{Range}
 use Rattle.units.specs.declared.ranges.RangeFault.{RangeFault}
-use Rattle.units.specs.declared.ranges.RangeFault.TheVariants.{Beyond, Cut}
 use Rattle.chip.specs.Effect.{suspended}
 use Rattle.chip.specs.Step.{Known}
 use Rattle.chip.specs.declared.model.Command.{Command}
@@ -13,16 +12,11 @@ use Rattle.plan.specs.Plan.{planned}
 use Rattle.plan.specs.declared.wish.Term.{Term}
 use Rattle.refusals.specs.declared.RunFault.{RunFault}
 use Rattle.refusals.specs.declared.RunFault.TheVariants.{Blind, Suspended, Cable, Full}
-use Rattle.refusals.specs.declared.RunFault.TheVariants as run
 use Rattle.refusals.specs.declared.Sent.{Sent}
 use Rattle.session.specs.Send.{World, sending}
 use Rattle.session.specs.View.{View}
 
--- A range's fault as the run's.
-abbrev pub range_fault : RangeFault → RunFault
-range_fault (Beyond at) = run.Beyond at
-range_fault (Cut at) = run.Cut at
-
+-- The set that ranges wish for, where its fault is the run's.
 abbrev pub ranged : {X : Type 0} → Result X RangeFault → Result X RunFault
 ranged (Ok x) = Ok x
 ranged (Err f) = Err (range_fault f)

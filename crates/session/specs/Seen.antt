@@ -1,18 +1,11 @@
 -- How the answers to a look's questions are put together.
-use Rattle.std.specs.Prelude.{ℕ, ◌/◌, ◌%◌, Bool, false, cond, Ok, Err, Result, ◌==◌, bit_and}
+use Rattle.std.specs.Prelude.{ℕ, ◌/◌, ◌%◌, Bool, false, cond, ◌==◌, bit_and}
 use Rattle.chip.specs.declared.model.Part.{Part}
 use Rattle.chip.specs.declared.model.Arming.TheVariants.{Disarmed, Stored}
 use Rattle.chip.specs.declared.model.State.{State}
 use Rattle.picture.specs.declared.reading.Reading.{Reading}
 use Rattle.picture.specs.Shown.{masked}
-use Rattle.refusals.specs.declared.CableFault.{CableFault}
-use Rattle.refusals.specs.declared.Sent.{Sent}
 use Rattle.session.specs.declared.rest.Rest.{Rest}
-
--- A cable's fault, before any command was sent.
-abbrev pub unsent : {X : Type 0} → Result X CableFault → Result X Sent
-unsent (Ok x) = Ok x
-unsent (Err f) = Err (record { fault = f; carried = 0 })
 
 -- SR2, SR3 and the lock bits.
 abbrev pub rest_of : State → Rest

@@ -32,6 +32,9 @@ waited w =
       reading = busy_shown (last_busy w.state (wait_answer w.state) w.reading.busy) w.reading;
     }
 
+abbrev pub waiting : World → Result (Unit {0}) CableFault × World
+waiting w = (wait_answer w.state, waited w)
+
 -- One command, carried.
 abbrev pub sent_on : Command → World → World
 sent_on m w = record { state = after (Send m) w.state; reading = followed m w.reading }

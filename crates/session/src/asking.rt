@@ -3,7 +3,7 @@ ghost use Rattle.chip.specs.Step.{Owes, asked, Sound};
 ghost use Rattle.chip.specs.declared.model.Exchange.TheVariants.{Ask};
 ghost use Rattle.chip.specs.declared.model.Question.TheVariants.{Status1};
 ghost use Rattle.chip.specs.declared.model.Part.TheVariants.{Jw};
-ghost use Rattle.session.specs.Asked.{Asks, Finds, Waits, last_busy};
+ghost use Rattle.session.specs.Asked.{Asks, Finds, Waits};
 ghost use Rattle.std.specs.Prelude.{◌≡◌, ◌<◌};
 
 use chip::interface::Chip;
@@ -26,20 +26,30 @@ pub(crate) fn ask<C: Chip>(chip: &mut C, question: Question) -> Result<u32, Cabl
     }
 }
 
-// Reads SR1 until it shows BUSY 0, and answers it; BUSY as it was last read is noted.
-pub(crate) fn wait<C: Chip>(chip: &mut C, busy: &mut bool) -> Result<u32, CableFault>
-    ensures waits { Waits (C.Chip.state chip.old) result (C.Chip.state chip.new) }
-    ensures busy { busy.new ≡ last_busy (C.Chip.state chip.old) result busy.old }
+// Why a wait failed, and whether SR1 was read before it did: each read showed BUSY.
+#[derive(Clone, Copy)]
+pub(crate) struct WaitFault {
+    pub(crate) fault: CableFault,
+    pub(crate) busy: bool,
+}
+
+// Reads SR1 until it shows BUSY 0, and answers it.
+pub(crate) fn wait<C: Chip>(chip: &mut C) -> Result<u32, WaitFault>
+    ensures { Waits (C.Chip.state chip.old) result (C.Chip.state chip.new) }
 {
     for reads in 0..READS {
-        let sr1 = ask(chip, Question::Status1)?;
+        let sr1 = ask(chip, Question::Status1).map_err(|fault| WaitFault {
+            fault,
+            busy: reads > 0,
+        })?;
         if sr1 % 2 == 0 {
-            *busy = false;
             return Ok(sr1);
         }
-        *busy = true;
     }
-    Err(CableFault::Busy)
+    Err(WaitFault {
+        fault: CableFault::Busy,
+        busy: true,
+    })
 }
 
 // Reads the lock bits of all units.

@@ -2,17 +2,16 @@
 ghost use Rattle.chip.specs.declared.model.Part.TheVariants.{Jw};
 ghost use Rattle.session.specs.Asked.{Finds};
 ghost use Rattle.session.specs.Look.{looking, looked};
-ghost use Rattle.session.specs.Seen.{rest_of, seen, unsent};
+ghost use Rattle.session.specs.Seen.{rest_of, seen};
 ghost use Rattle.std.specs.Prelude.{◌≡◌, Ok, Err, MatchResult};
 
 use crate::asking::{ask, read_locks, wait};
 use crate::rest::Rest;
-use chip::effect;
 use chip::interface::Chip;
 use chip::model::{Arming, Face, Part, Question, Registers};
 use picture::picture::Picture;
 use picture::reading::Reading;
-use refusals::{CableFault, RunFault, Sent};
+use refusals::{CableFault, RunFault};
 
 // Reads what a W25Q16JW has beyond SR1.
 fn read_rest<C: Chip>(chip: &mut C) -> Result<Rest, CableFault>
@@ -56,39 +55,17 @@ fn picture_of(part: Part, sr1: u32, rest: Rest, wp: bool) -> Picture
     })
 }
 
-// A cable's fault before any command was sent.
-fn unsent<T>(found: Result<T, CableFault>) -> Result<T, Sent>
-    ensures { result ≡ unsent found }
-{
-    match found {
-        Ok(x) => Ok(x),
-        Err(fault) => Err(Sent { fault, carried: 0 }),
-    }
-}
-
 // Looks at the chip.
 pub(crate) fn read<C: Chip>(chip: &mut C) -> Result<Picture, RunFault>
     ensures answer { MatchResult result (λ p. looking (C.Chip.state chip.old) ≡ Ok p.reading) (λ f. looking (C.Chip.state chip.old) ≡ Err f) }
     ensures after { C.Chip.state chip.new ≡ looked (C.Chip.state chip.old) }
 {
-    let mut busy = false;
-    let sr1 = unsent(wait(chip, &mut busy))?;
-    let number = unsent(ask(chip, Question::PartNumber))?;
-    match effect::part_of(number) {
-        Part::Jw => {
-            let rest = unsent(read_rest(chip))?;
-            Ok(picture_of(Part::Jw, sr1, rest, chip.level()))
-        }
-        Part::Xa => Ok(picture_of(
-            Part::Xa,
-            sr1,
-            Rest {
-                sr2: 0,
-                sr3: 0,
-                locks: 0,
-            },
-            chip.level(),
-        )),
-        Part::Other(_) => Err(RunFault::UnknownPart),
-    }
+    let sr1 = wait(chip).map_err(|stop| stop.fault)?;
+    let part = Part::from(ask(chip, Question::PartNumber)?);
+    let rest = match part {
+        Part::Jw => read_rest(chip)?,
+        Part::Xa => Rest::default(),
+        Part::Other(_) => return Err(RunFault::UnknownPart),
+    };
+    Ok(picture_of(part, sr1, rest, chip.level()))
 }

@@ -1,7 +1,6 @@
 // Sending commands to a chip, with the picture following.
-ghost use Rattle.chip.specs.Step.{Known};
-ghost use Rattle.session.specs.Send.{World, stores, wait_answer, waited, one_sent, sends, sending};
-ghost use Rattle.session.specs.World.{world};
+ghost use Rattle.session.specs.Send.{stores, waiting, one_sent, sends, sending};
+ghost use Rattle.session.specs.World.{world, Runs};
 ghost use Rattle.std.specs.Prelude.{◌≡◌, ◌≤◌, IfErr};
 
 use crate::asking::wait;
@@ -21,72 +20,71 @@ fn stores(order: Order, arming: Arming) -> bool
     }
 }
 
-// Waits until the chip is not busy, and notes in the picture what was seen of that.
-fn wait_shown<C: Chip>(chip: &mut C, picture: &mut Picture) -> Result<(), CableFault>
-    ensures answer { result ≡ wait_answer (C.Chip.state chip.old) }
-    ensures after { world (C.Chip.state chip.new) picture.new ≡ waited (world (C.Chip.state chip.old) picture.old) }
-{
-    let mut busy = picture.reading().busy;
-    let found = wait(chip, &mut busy);
-    picture.show_busy(busy);
-    match found {
-        Ok(_) => Ok(()),
-        Err(fault) => Err(fault),
-    }
+// A chip, and the picture that follows what is sent to it.
+#[derive(Drop)]
+pub(crate) struct Link<'a, C> {
+    pub(crate) chip: &'a mut C,
+    pub(crate) picture: Picture,
 }
 
-// One command, and the wait that it may want. A fault tells whether the command was carried.
-fn send_one<C: Chip>(chip: &mut C, picture: &mut Picture, command: Command) -> Result<(), Sent>
-    ensures part { (C.Chip.state chip.new).face.part ≡ (C.Chip.state chip.old).face.part }
-    ensures run { Known (C.Chip.state chip.old).face.part → one_sent command (world (C.Chip.state chip.old) picture.old) ≡ (result, world (C.Chip.state chip.new) picture.new) }
-    ensures few { IfErr result (λ s. s.carried ≤ 1) }
-{
-    if let Answer::Down = chip.exchange(Exchange::Send(command)) {
-        return Err(Sent {
-            fault: CableFault::Down,
-            carried: 0,
-        });
-    }
-    let known = picture.reading();
-    let awaited = stores(effect::order_of(known.face.part, command), known.arming);
-    picture.follow(command);
-    if awaited {
-        match wait_shown(chip, picture) {
-            Ok(()) => Ok(()),
-            Err(fault) => Err(Sent { fault, carried: 1 }),
+impl<C: Chip> Link<'_, C> {
+    // Waits until the chip is not busy, and notes in the picture what was seen of that.
+    fn wait(&mut self) -> Result<(), CableFault>
+        ensures same_chip { self.new.chip.ghost_name ≡ self.old.chip.ghost_name }
+        ensures run { waiting (world C.Chip.state self.old) ≡ (result, world C.Chip.state self.new) }
+    {
+        match wait(self.chip) {
+            Ok(_) => {
+                self.picture.show_busy(false);
+                Ok(())
+            }
+            Err(stop) => {
+                if stop.busy {
+                    self.picture.show_busy(true);
+                }
+                Err(stop.fault)
+            }
         }
-    } else {
-        Ok(())
     }
-}
 
-// The commands one after the other.
-fn send_all<C: Chip>(chip: &mut C, picture: &mut Picture, commands: &[Command]) -> Result<(), Sent>
-    ensures part { (C.Chip.state chip.new).face.part ≡ (C.Chip.state chip.old).face.part }
-    ensures run { Known (C.Chip.state chip.old).face.part → sends commands.now 0 (world (C.Chip.state chip.old) picture.old) ≡ (result, world (C.Chip.state chip.new) picture.new) }
-{
-    for (i, command) in commands.iter().enumerate() {
-        if let Err(stop) = send_one(chip, picture, *command) {
+    // One command, and the wait that it may want. A fault tells whether the command was carried.
+    fn send_one(&mut self, command: Command) -> Result<(), Sent>
+        ensures run { Runs C.Chip.state (one_sent command) self.old result self.new }
+        ensures few { IfErr result (λ s. s.carried ≤ 1) }
+    {
+        if let Answer::Down = self.chip.exchange(Exchange::Send(command)) {
             return Err(Sent {
-                fault: stop.fault,
-                carried: i + stop.carried,
+                fault: CableFault::Down,
+                carried: 0,
             });
         }
+        let known = self.picture.reading();
+        let awaited = stores(effect::order_of(known.face.part, command), known.arming);
+        self.picture.follow(command);
+        if awaited {
+            self.wait().map_err(|fault| Sent { fault, carried: 1 })?;
+        }
+        Ok(())
     }
-    Ok(())
-}
 
-// A plan: a wait first, even where there is no command.
-pub(crate) fn send<C: Chip>(
-    chip: &mut C,
-    picture: &mut Picture,
-    commands: &[Command],
-) -> Result<(), Sent>
-    ensures part { (C.Chip.state chip.new).face.part ≡ (C.Chip.state chip.old).face.part }
-    ensures run { Known (C.Chip.state chip.old).face.part → sending commands.now (world (C.Chip.state chip.old) picture.old) ≡ (result, world (C.Chip.state chip.new) picture.new) }
-{
-    match wait_shown(chip, picture) {
-        Ok(()) => send_all(chip, picture, commands),
-        Err(fault) => Err(Sent { fault, carried: 0 }),
+    // The commands one after the other.
+    fn send_all(&mut self, commands: &[Command]) -> Result<(), Sent>
+        ensures { Runs C.Chip.state (sends commands.now 0) self.old result self.new }
+    {
+        for (i, command) in commands.iter().enumerate() {
+            self.send_one(*command).map_err(|stop| Sent {
+                carried: i + stop.carried,
+                ..stop
+            })?;
+        }
+        Ok(())
+    }
+
+    // A plan: a wait first, even where there is no command.
+    pub(crate) fn send(&mut self, commands: &[Command]) -> Result<(), Sent>
+        ensures { Runs C.Chip.state (sending commands.now) self.old result self.new }
+    {
+        self.wait().map_err(|fault| Sent { fault, carried: 0 })?;
+        self.send_all(commands)
     }
 }

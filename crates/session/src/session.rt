@@ -1,13 +1,12 @@
 // A session: a chip, what is known of it, and the calls on it.
 ghost use Rattle.session.specs.Calls.{look_answer, after_look, KeyTurned, PowerCycled, judge_answer, Verdict, protected_shown};
-ghost use Rattle.session.specs.Reach.{ranged, Reached};
-ghost use Rattle.units.specs.Ranges.{wished};
+ghost use Rattle.session.specs.Reach.{Reached};
 ghost use Rattle.session.specs.Trace.{ReachLaw};
 ghost use Rattle.session.specs.View.{view, reading_in};
 ghost use Rattle.std.specs.Prelude.{◌≡◌, None};
 
 use crate::look;
-use crate::send::send;
+use crate::send::Link;
 use chip::effect;
 use chip::interface::Chip;
 use chip::model::Command;
@@ -15,8 +14,10 @@ use picture::array::ArrayCommand;
 use picture::picture::Picture;
 use plan::wish::{Term, Wish};
 use refusals::RunFault;
-use units::{Range, RangeFault};
+use units::{ARRAY_SIZE, Range};
 
+// Stays without a model: that would hide the chip, and with it what holds of every chip of a caller's own type `C`, such as
+// that its part is a known one, on which key, power and reach rest. The type would also have to ask for `C: Chip`.
 #[derive(Drop)]
 pub struct Session<C> {
     chip: C,
@@ -42,16 +43,11 @@ impl<C: Chip> Session<C> {
         ensures answer { result ≡ look_answer (view C.Chip.state self.old) }
         ensures after { view C.Chip.state self.new ≡ after_look (view C.Chip.state self.old) }
     {
-        match look::read(&mut self.chip) {
-            Ok(picture) => {
-                self.picture = Some(picture);
-                Ok(picture.protected())
-            }
-            Err(fault) => {
-                self.picture = None;
-                Err(fault)
-            }
-        }
+        // blind, unless all is read
+        self.picture = None;
+        let picture = look::read(&mut self.chip)?;
+        self.picture = Some(picture);
+        Ok(picture.protected())
     }
 
     // Sets the level of /WP.
@@ -59,10 +55,8 @@ impl<C: Chip> Session<C> {
         ensures { KeyTurned high (view C.Chip.state self.old) (view C.Chip.state self.new) }
     {
         self.chip.key(high);
-        if let Some(seen) = self.picture {
-            let mut picture = seen;
+        if let Some(picture) = &mut self.picture {
             picture.key(high);
-            self.picture = Some(picture);
         }
     }
 
@@ -79,24 +73,18 @@ impl<C: Chip> Session<C> {
         ensures answer { result ≡ judge_answer code address (view C.Chip.state self.now) }
         ensures verdict { Verdict result code address (view C.Chip.state self.now) }
     {
-        let Some(command) = ArrayCommand::of(code) else {
-            return Err(RunFault::Code);
-        };
-        if address >= 0x20_0000 {
+        let command = ArrayCommand::try_from(code)?;
+        if address >= ARRAY_SIZE {
             return Err(RunFault::Beyond { at: 0 });
         }
-        let Some(picture) = self.picture else {
-            return Err(RunFault::Blind);
-        };
-        match picture.obeys(command, address) {
-            Some(obeyed) => Ok(obeyed),
-            // the address is in the array
-            None => unreachable(),
-        }
+        let picture = self.picture.ok_or(RunFault::Blind)?;
+        // the address is in the array
+        Ok(picture.obeys(command, address).unwrap())
     }
 
     // Has just the units of the ranges protected, for now or for good; answers how many commands that took. The plan
     // stands in the first of the places.
+    // Stays places and a count: the places are the caller's, and there is no heap.
     pub fn reach(
         &mut self,
         ranges: &[Range],
@@ -118,17 +106,20 @@ impl<C: Chip> Session<C> {
     ) -> Result<usize, RunFault>
         ensures { Reached ranges.now term (view C.Chip.state self.old) slots.old result (view C.Chip.state self.new) slots.new }
     {
-        let set = wish_in(ranges)?;
-        let Some(seen) = self.picture else {
-            return Err(RunFault::Blind);
-        };
-        if effect::is_suspended(seen.reading().face) {
+        let set = units::units_of(ranges)?;
+        let picture = self.picture.ok_or(RunFault::Blind)?;
+        if effect::is_suspended(picture.reading().face) {
             return Err(RunFault::Suspended);
         }
-        let count = laws::plan_for(&seen, Wish { set, term }, slots)?;
-        let mut picture = seen;
-        let sent = send(&mut self.chip, &mut picture, &slots[0..count]);
-        self.picture = Some(picture);
+        let count = laws::plan_for(&picture, Wish { set, term }, slots)?;
+        let mut link = Link {
+            chip: &mut self.chip,
+            picture,
+        };
+        let sent = link.send(&slots[0..count]);
+        // Stays a copy that is stored back: after a struct held a `&mut` into the `Option`, its value is not known. Done or
+        // not, the picture shows what was sent.
+        self.picture = Some(link.picture);
         sent?;
         Ok(count)
     }
@@ -145,10 +136,7 @@ impl<C: Chip> Session<C> {
     pub fn protected(&self) -> Option<u64>
         ensures { result ≡ protected_shown (reading_in self.now.picture) }
     {
-        match self.picture {
-            Some(picture) => Some(picture.protected()),
-            None => None,
-        }
+        self.picture.map(|picture| picture.protected())
     }
 
     // The session's number.
@@ -156,16 +144,5 @@ impl<C: Chip> Session<C> {
         ensures { result ≡ self.now.number }
     {
         self.number
-    }
-}
-
-// The set that ranges wish for.
-fn wish_in(ranges: &[Range]) -> Result<u64, RunFault>
-    ensures { result ≡ ranged (wished ranges.now) }
-{
-    match units::units_of(ranges) {
-        Ok(set) => Ok(set),
-        Err(RangeFault::Beyond { at }) => Err(RunFault::Beyond { at }),
-        Err(RangeFault::Cut { at }) => Err(RunFault::Cut { at }),
     }
 }

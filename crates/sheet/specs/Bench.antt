@@ -1,38 +1,40 @@
 -- What each record of a sheet is answered, and what it leaves on the bench.
 use Rattle.std.specs.Prelude.{ℕ, Bool, cond, List, Some, None, Ok, Err, Option, Result, nat_lt}
 use Rattle.units.specs.Units.{array_size}
+use Rattle.chip.specs.Start.{started}
 use Rattle.chip.specs.Step.{keyed, powered}
 use Rattle.chip.specs.declared.model.State.{State}
-use Rattle.parts.specs.Start.{started, jw_state, xa_state}
+use Rattle.parts.specs.Any.{any_state}
+use Rattle.parts.specs.declared.any.AnyPart.{AnyPart}
 use Rattle.picture.specs.Protection.{array_command}
 use Rattle.picture.specs.declared.array.ArrayCommand.{ArrayCommand}
 use Rattle.records.specs.Records.{ChipText, RecordText, a_chip, a_look, a_key, a_power, a_judge, record_of}
 use Rattle.records.specs.Values.{part_in, values_in, level_in}
-use Rattle.refusals.specs.declared.Placed.{Placed}
 use Rattle.refusals.specs.declared.RunFault.{RunFault}
 use Rattle.refusals.specs.declared.RunFault.TheVariants.{Code, Beyond}
 use Rattle.refusals.specs.declared.SheetFault.{SheetFault}
 use Rattle.refusals.specs.declared.SheetFault.TheVariants.{NoChip, Run}
 use Rattle.session.specs.Calls.{look_answer, after_look, rekeyed_in, judge_answer}
 use Rattle.session.specs.View.{View, view}
+use Rattle.session.specs.declared.session.Session.{Session}
 use Rattle.sheet.specs.declared.bench.Bench.{Bench}
-use Rattle.sheet.specs.declared.bench.Bench.TheVariants.{Empty, OfJw, OfXa}
 use Rattle.sheet.specs.declared.bench.Said.{Said}
 use Rattle.sheet.specs.declared.bench.Said.TheVariants.{Fine, Seen, Obeyed, Ignored}
 use Rattle.text.specs.Fields.{FieldText, after}
 use Rattle.text.specs.Numbers.{hex_of}
 
 -- The session on the bench, if there is a chip.
+abbrev pub shown : Option (Session AnyPart) → Option View
+shown None = None
+shown (Some s) = Some (view any_state s)
+
 abbrev pub desk_of : Bench → Option View
-desk_of Empty = None
-desk_of (OfJw s) = Some (view (λ x. jw_state x.memory) s)
-desk_of (OfXa s) = Some (view (λ x. xa_state x.memory) s)
+desk_of b = shown b.session
 
 -- The state that a chip record starts a chip in.
 abbrev pub start_of : ChipText → Result State SheetFault
 start_of f =
-    after (part_in f.part) (λ p. after (values_in p f) (λ x.
-    Ok (started p x.registers x.locks x.wp x.slow x.carry)))
+    after (part_in f.part) (λ p. after (values_in p f) (λ x. Ok (started p x)))
 
 abbrev pub told_start : ChipText → Result Said SheetFault
 told_start f = after (start_of f) (λ _. Ok Fine)
@@ -46,10 +48,6 @@ abbrev pub next_start : ChipText → ℕ → Option View → Option View
 next_start f number d = put_chip (start_of f) number d
 
 -- A run's fault, with the place that is told.
-abbrev pub beside : {X : Type 0} → ℕ → Result X RunFault → Result X Placed
-beside place (Ok x) = Ok x
-beside place (Err f) = Err (record { fault = f; place = place })
-
 abbrev pub placed : {X : Type 0} → ℕ → Result X RunFault → Result X SheetFault
 placed place (Ok x) = Ok x
 placed place (Err f) = Err (Run f place)

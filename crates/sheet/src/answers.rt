@@ -4,13 +4,14 @@ ghost use Rattle.std.specs.Prelude.{◌≤◌, length};
 ghost use Rattle.sheet.specs.Answers.{seen_text, no_text, answer_text};
 
 use crate::bench::Said;
-use output::{Line, NoRoom, say_line};
+use output::{Line, NoRoom, Output};
 use refusals::SheetFault;
 
-fn say_seen(bytes: &mut [u8], len: &mut usize, set: u64) -> Result<(), NoRoom>
-    ensures { Writes (seen_text set) result bytes.old len.old bytes.new len.new }
+// Stays a line opened and kept in each: a function that takes what to write would have to tell what a closure leaves.
+fn say_seen(output: &mut Output, set: u64) -> Result<(), NoRoom>
+    ensures { Writes (seen_text set) result output.old output.new }
 {
-    let mut line = Line::open(bytes, len);
+    let mut line = Line::open(output.bytes, &mut output.len);
     line.text(b"seen ")?;
     line.hex(16, set)?;
     line.put(b'\n')?;
@@ -18,10 +19,10 @@ fn say_seen(bytes: &mut [u8], len: &mut usize, set: u64) -> Result<(), NoRoom>
     Ok(())
 }
 
-fn say_no(bytes: &mut [u8], len: &mut usize, number: u8, place: usize) -> Result<(), NoRoom>
-    ensures { Writes (no_text number place) result bytes.old len.old bytes.new len.new }
+fn say_no(output: &mut Output, number: u8, place: usize) -> Result<(), NoRoom>
+    ensures { Writes (no_text number place) result output.old output.new }
 {
-    let mut line = Line::open(bytes, len);
+    let mut line = Line::open(output.bytes, &mut output.len);
     line.text(b"no ")?;
     line.decimal(number as usize)?;
     line.put(b' ')?;
@@ -32,19 +33,15 @@ fn say_no(bytes: &mut [u8], len: &mut usize, number: u8, place: usize) -> Result
 }
 
 // One answer.
-pub(crate) fn say(
-    bytes: &mut [u8],
-    len: &mut usize,
-    answer: Result<Said, SheetFault>,
-) -> Result<(), NoRoom>
-    ensures text { Writes (answer_text answer) result bytes.old len.old bytes.new len.new }
+pub(crate) fn say(output: &mut Output, answer: Result<Said, SheetFault>) -> Result<(), NoRoom>
+    ensures text { Writes (answer_text answer) result output.old output.new }
     ensures short { length (answer_text answer) ≤ 28 }
 {
     match answer {
-        Ok(Said::Fine) => say_line(bytes, len, b"ok"),
-        Ok(Said::Seen(set)) => say_seen(bytes, len, set),
-        Ok(Said::Obeyed) => say_line(bytes, len, b"obeyed"),
-        Ok(Said::Ignored) => say_line(bytes, len, b"ignored"),
-        Err(fault) => say_no(bytes, len, fault.number(), fault.place()),
+        Ok(Said::Fine) => output.say_line(b"ok"),
+        Ok(Said::Seen(set)) => say_seen(output, set),
+        Ok(Said::Obeyed) => output.say_line(b"obeyed"),
+        Ok(Said::Ignored) => output.say_line(b"ignored"),
+        Err(fault) => say_no(output, fault.number(), fault.place()),
     }
 }

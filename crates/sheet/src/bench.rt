@@ -1,26 +1,22 @@
 // The bench on which a sheet is run: no chip yet, or a session over one.
 ghost use Rattle.records.specs.Records.{chip_text};
-ghost use Rattle.sheet.specs.Bench.{desk_of, told_start, next_start, told_look, next_look, told_key, next_key, told_power, next_power, told_judge, command_in, known_code, in_array, told, next, beside};
+ghost use Rattle.sheet.specs.Bench.{desk_of, told_start, next_start, told_look, next_look, told_key, next_key, told_power, next_power, told_judge, command_in, in_array, told, next};
 ghost use Rattle.text.specs.Fields.{plain};
-ghost use Rattle.std.specs.Prelude.{◌≡◌};
+ghost use Rattle.std.specs.Prelude.{◌≡◌, None};
 
 use chip::interface::Chip;
-use chip::model::Part;
-use parts::jw::W25q16jw;
-use parts::xa::W25x16a;
+use parts::any::AnyPart;
 use picture::array::ArrayCommand;
 use records::record::{ChipFields, Record};
 use records::values;
 use refusals::{Placed, RunFault, SheetFault};
 use session::Session;
-use std::mem;
 use text::fields::Field;
+use units::ARRAY_SIZE;
 
 #[derive(Drop)]
-pub(crate) enum Bench {
-    Empty,
-    OfJw(Session<W25q16jw>),
-    OfXa(Session<W25x16a>),
+pub(crate) struct Bench {
+    session: Option<Session<AnyPart>>,
 }
 
 // What a line is answered, where it is not refused.
@@ -37,49 +33,35 @@ pub(crate) enum Said {
 }
 
 impl Bench {
+    // A bench without a chip.
+    pub(crate) fn empty() -> Bench
+        ensures { desk_of result ≡ None }
+    {
+        Bench { session: None }
+    }
+
     // A chip record: a new chip, and a blind session over it. A refused one changes nothing.
     fn start(&mut self, fields: ChipFields, number: u16) -> Result<Said, SheetFault>
         ensures answer { result ≡ told_start (chip_text fields.entry) }
         ensures after { desk_of self.new ≡ next_start (chip_text fields.entry) number (desk_of self.old) }
     {
         let part = values::part_in(fields.part)?;
-        let x = values::values_in(part, fields)?;
-        match part {
-            Part::Jw => match W25q16jw::new(x.registers, x.locks, x.wp, x.slow, x.carry) {
-                Some(chip) => {
-                    *self = Bench::OfJw(Session::open(chip, number));
-                    Ok(Said::Fine)
-                }
-                None => unreachable(),
-            },
-            Part::Xa => match W25x16a::new(x.registers.sr1, x.wp, x.slow, x.carry) {
-                Some(chip) => {
-                    *self = Bench::OfXa(Session::open(chip, number));
-                    Ok(Said::Fine)
-                }
-                None => unreachable(),
-            },
-            Part::Other(_) => unreachable(),
-        }
+        let start = values::values_in(part, fields)?;
+        let Some(chip) = AnyPart::new(part, start) else {
+            // the field names one of the two parts, and what it starts with is fair
+            unreachable()
+        };
+        self.session = Some(Session::open(chip, number));
+        Ok(Said::Fine)
     }
 
     fn look(&mut self) -> Result<Said, SheetFault>
         ensures answer { result ≡ told_look (desk_of self.old) }
         ensures after { desk_of self.new ≡ next_look (desk_of self.old) }
     {
-        match mem::replace(self, Bench::Empty) {
-            Bench::Empty => Err(SheetFault::NoChip),
-            Bench::OfJw(mut session) => {
-                let seen = session.look();
-                *self = Bench::OfJw(session);
-                Ok(Said::Seen(placed(seen, 0)?))
-            }
-            Bench::OfXa(mut session) => {
-                let seen = session.look();
-                *self = Bench::OfXa(session);
-                Ok(Said::Seen(placed(seen, 0)?))
-            }
-        }
+        let session = self.session.as_mut().ok_or(SheetFault::NoChip)?;
+        let set = session.look().map_err(|fault| Placed { fault, place: 0 })?;
+        Ok(Said::Seen(set))
     }
 
     fn key(&mut self, level: Field) -> Result<Said, SheetFault>
@@ -87,50 +69,29 @@ impl Bench {
         ensures after { desk_of self.new ≡ next_key (plain level.entry) (desk_of self.old) }
     {
         let high = values::level_in(level)?;
-        match mem::replace(self, Bench::Empty) {
-            Bench::Empty => Err(SheetFault::NoChip),
-            Bench::OfJw(mut session) => {
-                session.key(high);
-                *self = Bench::OfJw(session);
-                Ok(Said::Fine)
-            }
-            Bench::OfXa(mut session) => {
-                session.key(high);
-                *self = Bench::OfXa(session);
-                Ok(Said::Fine)
-            }
-        }
+        let session = self.session.as_mut().ok_or(SheetFault::NoChip)?;
+        session.key(high);
+        Ok(Said::Fine)
     }
 
     fn power(&mut self) -> Result<Said, SheetFault>
         ensures answer { result ≡ told_power (desk_of self.old) }
         ensures after { desk_of self.new ≡ next_power (desk_of self.old) }
     {
-        match mem::replace(self, Bench::Empty) {
-            Bench::Empty => Err(SheetFault::NoChip),
-            Bench::OfJw(mut session) => {
-                session.power();
-                *self = Bench::OfJw(session);
-                Ok(Said::Fine)
-            }
-            Bench::OfXa(mut session) => {
-                session.power();
-                *self = Bench::OfXa(session);
-                Ok(Said::Fine)
-            }
-        }
+        let session = self.session.as_mut().ok_or(SheetFault::NoChip)?;
+        session.power();
+        Ok(Said::Fine)
     }
 
     fn judge(&self, code: Field, address: Field) -> Result<Said, SheetFault>
         ensures { result ≡ told_judge (plain code.entry) (plain address.entry) (desk_of self.now) }
     {
         let (code, address) = command_in(code, address)?;
-        let obeyed = match self {
-            Bench::Empty => return Err(SheetFault::NoChip),
-            Bench::OfJw(session) => session.judge(code, address),
-            Bench::OfXa(session) => session.judge(code, address),
-        };
-        if placed(obeyed, 0)? {
+        let session = self.session.as_ref().ok_or(SheetFault::NoChip)?;
+        let obeyed = session
+            .judge(code, address)
+            .map_err(|fault| Placed { fault, place: 0 })?;
+        if obeyed {
             Ok(Said::Obeyed)
         } else {
             Ok(Said::Ignored)
@@ -138,11 +99,12 @@ impl Bench {
     }
 
     // What a line is answered, and what it leaves; its number goes to the session that a chip record opens.
+    #[tactic(auto, unfolding(crate::specs::Bench::told, crate::specs::Bench::next))]
     pub(crate) fn obey(&mut self, line: &[u8], number: u16) -> Result<Said, SheetFault>
         ensures answer { result ≡ told line.now (desk_of self.old) }
         ensures after { desk_of self.new ≡ next line.now number (desk_of self.old) }
     {
-        match Record::of(line)? {
+        match Record::try_from(line)? {
             Record::Chip(fields) => self.start(fields, number),
             Record::Look => self.look(),
             Record::Key { level } => self.key(level),
@@ -152,21 +114,11 @@ impl Bench {
     }
 }
 
-// Refuses a code that cannot be judged.
-fn known_code(code: u8) -> Result<(), RunFault>
-    ensures { result ≡ known_code code }
-{
-    match ArrayCommand::of(code) {
-        Some(_) => Ok(()),
-        None => Err(RunFault::Code),
-    }
-}
-
 // Refuses an address beyond the array.
 fn in_array(address: u32) -> Result<(), RunFault>
     ensures { result ≡ in_array address }
 {
-    if address < 0x20_0000 {
+    if address < ARRAY_SIZE {
         Ok(())
     } else {
         Err(RunFault::Beyond { at: 0 })
@@ -178,18 +130,14 @@ fn command_in(code: Field, address: Field) -> Result<(u8, u32), SheetFault>
     ensures { result ≡ command_in (plain code.entry) (plain address.entry) }
 {
     let c = values::code_in(code)?;
-    placed(known_code(c), code.at)?;
+    let _ = ArrayCommand::try_from(c).map_err(|fault| Placed {
+        fault,
+        place: code.at,
+    })?;
     let a = values::address_in(address)?;
-    placed(in_array(a), address.at)?;
+    in_array(a).map_err(|fault| Placed {
+        fault,
+        place: address.at,
+    })?;
     Ok((c, a))
-}
-
-// A run's fault beside the place that is told.
-fn placed<T>(answer: Result<T, RunFault>, place: usize) -> Result<T, Placed>
-    ensures { result ≡ beside place answer }
-{
-    match answer {
-        Ok(x) => Ok(x),
-        Err(fault) => Err(Placed { fault, place }),
-    }
 }

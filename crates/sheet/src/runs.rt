@@ -6,12 +6,12 @@ ghost use Rattle.text.specs.Lines.{lines};
 
 use crate::answers::say;
 use crate::bench::Bench;
-use output::NoRoom;
+use output::{NoRoom, Output};
 use refusals::SheetFault;
-use text::lines::split_line;
+use text::lines::Lines;
 
 // Why a sheet was not run to its end, and how many bytes of its answers stand.
-#[derive(Clone, Copy)]
+#[derive(Clone, Copy, Debug, PartialEq, Eq)]
 pub struct Unfinished {
     pub kept: usize,
     pub fault: SheetFault,
@@ -26,21 +26,19 @@ pub fn run(input: &[u8], out: &mut [u8]) -> Result<usize, Unfinished>
     ensures within { MatchResult result (λ n. n ≤ length out.old) (λ e. e.kept ≤ length out.old) }
     ensures fits { 28 * length (lines input.now) ≤ length out.old → is_ok result ≡ true }
 {
-    let mut bench = Bench::Empty;
+    let mut bench = Bench::empty();
+    // Stays a counter of its own: a session's number goes round after 65,535, which `enumerate` does not.
     let mut number: u16 = 0;
-    let mut len = 0;
-    let mut rest = input;
-    while rest.len() > 0 {
-        let split = split_line(rest);
-        let answer = bench.obey(split.line, number);
-        if let Err(NoRoom) = say(out, &mut len, answer) {
+    let mut output = Output { bytes: out, len: 0 };
+    for line in Lines::of(input) {
+        let answer = bench.obey(line, number);
+        if let Err(NoRoom) = say(&mut output, answer) {
             return Err(Unfinished {
-                kept: len,
+                kept: output.len,
                 fault: SheetFault::Room,
             });
         }
         number = number.wrapping_add(1);
-        rest = split.rest;
     }
-    Ok(len)
+    Ok(output.len)
 }

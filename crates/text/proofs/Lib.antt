@@ -1,5 +1,3 @@
-pub mod FieldsLeft
-mod Front
 pub mod LinesMore
 mod PartsMore
 mod ReadMore

@@ -48,5 +48,7 @@ unfolding lines
 lines_few [] = omega arith
 lines_few (b ∷ bs) = few_by (eqb b 10) b bs (lines_few bs)
 
-pub count_none : (text : List ℕ) → length text ≤ 0 → length (lines text) ≡ 0
-count_none text h = let f = lines_few text in omega arith
+pub lines_none : (text : List ℕ) → length text ≡ 0 → lines text ≡ []
+unfolding lines
+lines_none [] h = refl
+lines_none (b ∷ bs) h = absurd (omega arith)

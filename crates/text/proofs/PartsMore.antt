@@ -1,9 +1,9 @@
 -- The fields of a text are its first field and those past the tab.
-use Rattle.std.proofs.Common.{◌≡◌, ℕ, suc, ◌+◌, ◌<◌, ◌≤◌, Bool, true, false, cond, not, eqb, List, [], ◌∷◌, length, take, drop, Err, refl, ap, ◌∙◌, arith}
+use Rattle.std.proofs.Common.{◌≡◌, ℕ, suc, ◌+◌, ◌<◌, ◌≤◌, Bool, true, false, cond, not, eqb, List, [], ◌∷◌, length, take, drop, Some, None, Err, Option, refl, ap, ◌∙◌, arith, length-drop}
 use Rattle.std.specs.List.{prefix_len}
 use Rattle.refusals.specs.declared.SheetFault.TheVariants.{Count}
 use Rattle.std.proofs.lemmas.List.{drop-drop}
-use Rattle.text.specs.Fields.{FieldText, parts, begun, ended_among}
+use Rattle.text.specs.Fields.{FieldText, parts, begun, ended_among, fields_from}
 use Rattle.text.specs.Scan.{other}
 
 abbrev pub width_by : Bool → List ℕ → ℕ
@@ -69,6 +69,25 @@ pub parts_some : (at size : ℕ) (xs : List ℕ) → ended_among (parts at xs) s
 unfolding parts
 parts_some at size [] = refl
 parts_some at size (b ∷ bs) = some_by (eqb b 9) at b size (parts (at + 1) bs)
+
+-- Each field but the first takes at least one byte.
+few_begun : (b at : ℕ) (fs : List FieldText) (n : ℕ) → length fs ≤ n + 1 → length (begun b at fs) ≤ n + 1
+few_begun b at [] n h = omega arith
+few_begun b at (f ∷ fs) n h = omega arith
+
+few_by : (t : Bool) (at b : ℕ) (fs : List FieldText) (n : ℕ) → length fs ≤ n + 1
+    → length (cond t (record { text = []; at = at } ∷ fs) (begun b at fs)) ≤ suc n + 1
+few_by true at b fs n h = omega arith
+few_by false at b fs n h = omega (arith, few_begun b at fs n h)
+
+pub parts_few : (at : ℕ) (xs : List ℕ) → length (parts at xs) ≤ length xs + 1
+unfolding parts
+parts_few at [] = omega arith
+parts_few at (b ∷ bs) = few_by (eqb b 9) at b (parts (at + 1) bs) (length bs) (parts_few (at + 1) bs)
+
+pub fields_few : (at : Option ℕ) (line : List ℕ) → length (fields_from at line) ≤ length line + 1
+fields_few None line = omega arith
+fields_few (Some at) line = omega (arith, parts_few at (drop at line), length-drop at line)
 
 -- The same from a place in a line on, at a width that was counted.
 module _ (line rest : List ℕ) (at n : ℕ) (r : rest ≡ drop at line) (e : n ≡ prefix_len (other 9) rest) where

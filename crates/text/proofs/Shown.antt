@@ -1,9 +1,10 @@
 -- The definitions at texts that are written out.
-use Rattle.std.proofs.Common.{◌≡◌, ℕ, List, [], ◌∷◌, Ok, Err, codes, refl}
+use Rattle.std.proofs.Common.{◌≡◌, ℕ, ◌-◌, cond, ◌&&◌, nat_le, List, [], ◌∷◌, Some, None, Ok, Err, codes, refl, arith}
+use Rattle.std.proofs.lemmas.Bool.Decides.{nat_tests}
 use Rattle.refusals.specs.declared.SheetFault.TheVariants.{Bytes, Field}
 use Rattle.text.specs.Fields.{FieldText}
 use Rattle.text.specs.Lines.{lines, admitted}
-use Rattle.text.specs.Numbers.{read, hex_of, decimal_of}
+use Rattle.text.specs.Numbers.{nibble, digit, read, hex_of, decimal_of}
 
 -- A field that starts at the place 7.
 abbrev at_seven : List ℕ → FieldText
@@ -42,6 +43,13 @@ zero_alone = refl
 zero_in_front : decimal_of 3 (at_seven (codes "01")) ≡ Err (Field 7)
 unfolding read
 zero_in_front = refl
+
+-- A hexadecimal digit is any that is told a value, a decimal one is 0 to 9.
+hexadecimal : (b : ℕ) → digit 16 b ≡ nibble b
+hexadecimal b = grind (arith, nat_tests)
+
+decimal : (b : ℕ) → digit 10 b ≡ cond (nat_le 48 b && nat_le b 57) (Some (b - 48)) None
+decimal b = grind (arith, nat_tests)
 
 -- The wrong digit is told before the zero in front.
 wrong_first : decimal_of 3 (at_seven (codes "0x")) ≡ Err (Field 8)

@@ -1,7 +1,9 @@
 -- The fields of a line.
-use Rattle.std.specs.Prelude.{ℕ, zero, suc, ◌+◌, cond, List, [], ◌∷◌, length, drop, Some, None, Ok, Err, Option, Result, ◌==◌, nat_le}
+use Rattle.std.specs.Prelude.{ℕ, ◌+◌, cond, List, [], ◌∷◌, length, drop, Some, None, Ok, Err, Option, Result, ◌==◌, nat_le}
 use Rattle.refusals.specs.declared.SheetFault.{SheetFault}
 use Rattle.refusals.specs.declared.SheetFault.TheVariants.{Count}
+use Rattle.std.specs.List.{slice_get}
+use Rattle.std.specs.Option.{option_map_or}
 use Rattle.std.specs.Result.{result_map_both}
 use Rattle.text.specs.declared.fields.Field.{Field}
 use Rattle.text.specs.declared.fields.Fields.{Fields}
@@ -35,9 +37,13 @@ abbrev pub fields_from : Option ℕ → List ℕ → List FieldText
 fields_from None line = []
 fields_from (Some at) line = parts at (drop at line)
 
--- What the reader of a line has still to read.
+-- The fields that the reader of a line has still to read.
+abbrev pub fields_left : Fields → List FieldText
+fields_left f = fields_from f.at f.line.now
+
+-- The same, beside the length of the whole line.
 abbrev pub left : Fields → Unread
-left f = record { fields = fields_from f.at f.line.now; size = length f.line.now }
+left f = record { fields = fields_left f; size = length f.line.now }
 
 -- A field of the code, by what it holds.
 abbrev pub plain : Field → FieldText
@@ -70,10 +76,8 @@ abbrev pub at_most : ℕ → Unread → Result (Unit {0}) SheetFault
 at_most most u = cond (nat_le (length u.fields) most) (Ok tt) (Err (Count u.size))
 
 -- The place where the field of this number starts, counted from 0; 0 where there is none.
-unfoldable pub start_of : ℕ → List FieldText → ℕ
-start_of n [] = 0
-start_of zero (f ∷ fs) = f.at
-start_of (suc n) (f ∷ fs) = start_of n fs
+abbrev pub start_of : ℕ → List FieldText → ℕ
+start_of n fs = option_map_or (λ f. f.at) (slice_get fs n) 0
 
 -- What follows a good answer; a refusal stands.
 abbrev pub after : {X Y : Type 0} → Result X SheetFault → (X → Result Y SheetFault) → Result Y SheetFault

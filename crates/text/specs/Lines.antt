@@ -4,6 +4,7 @@ use Rattle.refusals.specs.declared.SheetFault.{SheetFault}
 use Rattle.refusals.specs.declared.SheetFault.TheVariants.{Bytes}
 use Rattle.std.specs.List.{prefix_len}
 use Rattle.text.specs.Scan.{other}
+use Rattle.text.specs.declared.lines.Lines.{Lines}
 
 -- A byte put before the first of the lines.
 abbrev pub before : ℕ → List (List ℕ) → List (List ℕ)
@@ -14,6 +15,10 @@ before b (line ∷ more) = (b ∷ line) ∷ more
 unfoldable pub lines : List ℕ → List (List ℕ)
 lines [] = []
 lines (b ∷ bs) = cond (b == 10) ([] ∷ lines bs) (before b (lines bs))
+
+-- The lines that a reader has still to give.
+abbrev pub lines_left : Lines → List (List ℕ)
+lines_left l = lines l.rest.now
 
 -- All before the first line feed.
 abbrev pub first_line : List ℕ → List ℕ

@@ -1,20 +1,22 @@
 // The fields of a line.
-ghost use Rattle.std.specs.Str.{bytes_eq};
-ghost use Rattle.text.specs.Fields.{parts, plain, fields_from, left, unread, told, next_of, ended, at_most, start_of};
+ghost use Rattle.refusals.specs.declared.SheetFault.TheVariants.{Count};
+ghost use Rattle.text.specs.Fields.{parts, plain, fields_from, fields_left, left, unread, told, next_of, ended, at_most, start_of};
+ghost use Rattle.std.specs.Iterator.{YieldsFirstBy, item_count};
 ghost use Rattle.std.specs.Prelude.{◌≡◌, ◌∷◌, drop};
 
 use crate::scan::{skip, up_to};
 use refusals::SheetFault;
 
 // A part of a line, with the place in it where the part starts.
-#[derive(Clone, Copy)]
+#[derive(Clone, Copy, Debug, PartialEq, Eq)]
 pub struct Field<'a> {
     pub text: &'a [u8],
     pub at: usize,
 }
 
 // The fields of a line, read one after the other.
-#[derive(Clone, Copy)]
+// Stays without a model: a copy and a comparison need the line and the place, which the fields that are left do not give back.
+#[derive(Clone, Copy, Debug, PartialEq, Eq)]
 pub struct Fields<'a> {
     line: &'a [u8],
     // Where the next field starts, if one is left.
@@ -29,14 +31,12 @@ impl<'a> Fields<'a> {
         Fields { line, at: Some(0) }
     }
 
-    // The next field.
-    pub fn next(&mut self) -> Result<Field<'a>, SheetFault>
+    // The next field, of which there has to be one.
+    pub fn need(&mut self) -> Result<Field<'a>, SheetFault>
         ensures { next_of (left self.old) ≡ (told result, left self.new) }
     {
         let Some(at) = self.at else {
-            return Err(SheetFault::Count {
-                length: self.line.len(),
-            });
+            return Err(self.miscounted());
         };
         let (field, next) = cut(self.line, at);
         self.at = next;
@@ -47,10 +47,9 @@ impl<'a> Fields<'a> {
     pub fn end(&self) -> Result<(), SheetFault>
         ensures { result ≡ ended (left self.now) }
     {
-        let length = self.line.len();
         match self.at {
             None => Ok(()),
-            Some(_) => Err(SheetFault::Count { length }),
+            Some(_) => Err(self.miscounted()),
         }
     }
 
@@ -58,13 +57,11 @@ impl<'a> Fields<'a> {
     pub fn at_most(&self, most: usize) -> Result<(), SheetFault>
         ensures { result ≡ at_most most (left self.now) }
     {
-        let mut rest = *self;
-        for read in 0..most {
-            if let Err(_) = rest.next() {
-                return Ok(());
-            }
+        if self.count() <= most {
+            Ok(())
+        } else {
+            Err(self.miscounted())
         }
-        rest.end()
     }
 
     // The place where the field that is left as number `n`, counted from 0, starts; 0 where there is none.
@@ -72,15 +69,29 @@ impl<'a> Fields<'a> {
         ensures { result ≡ start_of n (left self.now).fields }
     {
         let mut rest = *self;
-        for skipped in 0..n {
-            if let Err(_) = rest.next() {
-                return 0;
-            }
+        rest.nth(n).map_or(0, |field| field.at)
+    }
+
+    // The refusal of a line that has too few fields or too many.
+    fn miscounted(&self) -> SheetFault
+        ensures { result ≡ Count (left self.now).size }
+    {
+        SheetFault::Count {
+            length: self.line.len(),
         }
-        match rest.next() {
-            Ok(field) => field.at,
-            Err(_) => 0,
-        }
+    }
+}
+
+// The fields from left to right.
+impl<'a> Iterator for Fields<'a> {
+    type Item = Field<'a>;
+
+    ghost next_gives = { YieldsFirstBy plain fields_left };
+
+    ghost remaining = { item_count fields_left };
+
+    fn next(&mut self) -> Option<Field<'a>> {
+        self.need().ok()
     }
 }
 
@@ -99,11 +110,4 @@ fn cut(line: &[u8], at: usize) -> (Field, Option<usize>)
     } else {
         (field, None)
     }
-}
-
-// Whether a text is this word.
-pub fn same(text: &[u8], word: &[u8]) -> bool
-    ensures { result ≡ bytes_eq text.now word.now }
-{
-    text == word
 }

@@ -1,7 +1,8 @@
 // The lines of a sheet, and which of them are let in.
 ghost use Rattle.std.specs.Prelude.{◌≡◌, ◌<◌, ◌≤◌, ◌∷◌, length, OnOk};
+ghost use Rattle.std.specs.Iterator.{YieldsFirstRef, item_count};
 ghost use Rattle.std.specs.List.{prefix_len};
-ghost use Rattle.text.specs.Lines.{lines, first_line, after_line, fine, admitted};
+ghost use Rattle.text.specs.Lines.{lines, lines_left, first_line, after_line, fine, admitted};
 
 use crate::scan::{skip, up_to};
 use refusals::SheetFault;
@@ -10,7 +11,7 @@ use refusals::SheetFault;
 const LONGEST: usize = 200;
 
 // A line, and what comes after its line feed.
-#[derive(Clone, Copy)]
+#[derive(Clone, Copy, Debug, PartialEq, Eq)]
 pub struct Split<'a> {
     pub line: &'a [u8],
     pub rest: &'a [u8],
@@ -30,18 +31,42 @@ pub fn split_line(input: &[u8]) -> Split
     }
 }
 
+// The lines of a text, from the first to the last.
+#[derive(Clone, Copy, Debug, PartialEq, Eq)]
+pub struct Lines<'a> {
+    rest: &'a [u8],
+}
+
+impl<'a> Lines<'a> {
+    pub fn of(text: &'a [u8]) -> Lines<'a>
+        ensures { lines_left result ≡ lines text.now }
+    {
+        Lines { rest: text }
+    }
+}
+
+impl<'a> Iterator for Lines<'a> {
+    type Item = &'a [u8];
+
+    ghost next_gives = { YieldsFirstRef lines_left };
+
+    ghost remaining = { item_count lines_left };
+
+    fn next(&mut self) -> Option<&'a [u8]> {
+        if self.rest.is_empty() {
+            return None;
+        }
+        let Split { line, rest } = split_line(self.rest);
+        self.rest = rest;
+        Some(line)
+    }
+}
+
 // How many lines there are.
 pub fn count_lines(input: &[u8]) -> usize
     ensures { result ≡ length (lines input.now) }
 {
-    let mut count = 0;
-    let mut rest = input;
-    while rest.len() > 0 {
-        let split = split_line(rest);
-        count += 1;
-        rest = split.rest;
-    }
-    count
+    Lines::of(input).count()
 }
 
 // Lets a line in that is short enough and has only tabs and printable signs.
@@ -64,17 +89,12 @@ fn fine_front(line: &[u8]) -> usize
     ensures count { result ≡ prefix_len fine line.now }
     ensures within { result ≤ length line.now }
 {
-    for (i, b) in line.iter().enumerate() {
-        if !is_fine(*b) {
-            return i;
-        }
-    }
-    line.len()
+    line.iter().take_while(|b| is_fine(**b)).count()
 }
 
 // Whether a line may have this byte: a tab, or a printable sign.
 fn is_fine(b: u8) -> bool
     ensures { result ≡ fine b }
 {
-    b == b'\t' || (b >= 0x20 && b <= 0x7e)
+    matches!(b, b'\t' | 0x20..=0x7e)
 }

@@ -1,5 +1,5 @@
 // Numbers in hexadecimal and in decimal.
-ghost use Rattle.std.specs.Prelude.{◌≡◌, ℕ, ◌^◌, ◌<◌, ◌≤◌, length, IfSome, IfOk};
+ghost use Rattle.std.specs.Prelude.{◌≡◌, ◌^◌, ◌<◌, ◌≤◌, length, IfSome, IfOk};
 ghost use Rattle.text.specs.Fields.{plain};
 ghost use Rattle.text.specs.Numbers.{nibble, digit, read, hex_of, decimal_of};
 
@@ -18,15 +18,12 @@ pub fn hex_digit(b: u8) -> Option<u8>
     }
 }
 
-// What a decimal digit counts.
-fn decimal_digit(b: u8) -> Option<u8>
-    ensures value { result ≡ digit b }
-    ensures small { IfSome result (λ d. d < 10) }
+// What a digit counts in a base up to 16.
+fn digit(b: u8, base: u8) -> Option<u8>
+    ensures value { result ≡ digit base b }
+    ensures small { IfSome result (λ d. d < base) }
 {
-    match b {
-        b'0'..=b'9' => Some(b - b'0'),
-        _ => None,
-    }
+    hex_digit(b).filter(|d| *d < base)
 }
 
 // The number that a field of exactly `width` hexadecimal digits tells. No field may have more than 16.
@@ -37,26 +34,7 @@ pub fn hex(field: Field, width: usize) -> Result<u64, SheetFault>
     if field.text.len() != width || width > 16 {
         return Err(SheetFault::Field { place: field.at });
     }
-    hex_digits(field)
-}
-
-// The number that hexadecimal digits tell. A field may claim any place, so the place of a wrong digit stops at the
-// largest number.
-fn hex_digits(field: Field) -> Result<u64, SheetFault>
-    requires { length field.text.now ≤ 16 }
-    ensures value { result ≡ read 16 nibble 0 field.entry.at field.entry.text.now }
-    ensures small { IfOk result (λ v. v < 16 ^ length field.entry.text.now) }
-{
-    let mut sum: u64 = 0;
-    for (i, b) in field.text.iter().enumerate() {
-        let Some(nibble) = hex_digit(*b) else {
-            return Err(SheetFault::Field {
-                place: field.at.saturating_add(i),
-            });
-        };
-        sum = 16 * sum + nibble as u64;
-    }
-    Ok(sum)
+    digits(field, 16)
 }
 
 // The number that a field of 1 to `longest` decimal digits tells, 9 at most, with no zero in front.
@@ -68,27 +46,28 @@ pub fn decimal(field: Field, longest: usize) -> Result<u32, SheetFault>
     if length == 0 || length > longest.min(9) {
         return Err(SheetFault::Field { place: field.at });
     }
-    let value = decimal_digits(field)?;
+    let value = digits(field, 10)? as u32;
     if length > 1 && field.text[0] == b'0' {
         return Err(SheetFault::Field { place: field.at });
     }
     Ok(value)
 }
 
-// The number that decimal digits tell, zeros in front or not. Places stop as in `hex_digits`.
-fn decimal_digits(field: Field) -> Result<u32, SheetFault>
-    requires { length field.text.now ≤ 9 }
-    ensures value { result ≡ read 10 digit 0 field.entry.at field.entry.text.now }
-    ensures small { IfOk result (λ v. v < 10 ^ 9) }
+// The number that digits of a base tell, zeros in front or not. A field may claim any place, so the place of a wrong
+// digit stops at the largest number.
+fn digits(field: Field, base: u8) -> Result<u64, SheetFault>
+    requires room { base ^ length field.text.now ≤ 2 ^ 64 }
+    ensures value { result ≡ read base 0 field.entry.at field.entry.text.now }
+    ensures small { IfOk result (λ v. v < base ^ length field.entry.text.now) }
 {
-    let mut sum: u32 = 0;
+    let mut sum = 0;
     for (i, b) in field.text.iter().enumerate() {
-        let Some(value) = decimal_digit(*b) else {
+        let Some(digit) = digit(*b, base) else {
             return Err(SheetFault::Field {
                 place: field.at.saturating_add(i),
             });
         };
-        sum = 10 * sum + value as u32;
+        sum = u64::from(base) * sum + u64::from(digit);
     }
     Ok(sum)
 }

@@ -8,17 +8,12 @@ pub(crate) fn up_to(text: &[u8], mark: u8) -> usize
     ensures count { result ≡ prefix_len (other mark) text.now }
     ensures within { result ≤ length text.now }
 {
-    for (i, b) in text.iter().enumerate() {
-        if *b == mark {
-            return i;
-        }
-    }
-    text.len()
+    text.iter().take_while(|b| **b != mark).count()
 }
 
 // The text without its first `n` bytes: nothing where it has no more.
 pub(crate) fn skip(text: &[u8], n: usize) -> &[u8]
     ensures { result.now ≡ drop n text.now }
 {
-    if n < text.len() { &text[n..] } else { &[] }
+    text.get(n..).unwrap_or(&[])
 }

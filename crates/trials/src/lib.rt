@@ -6,3 +6,5 @@
 mod refusing;
 #[cfg(test)]
 mod tests;
+#[cfg(test)]
+mod wishing;

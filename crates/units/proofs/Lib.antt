@@ -3,5 +3,4 @@ pub mod Bits
 pub mod Sets
 pub mod Addresses
 pub mod Touch
-pub mod Faults
 pub mod Unions

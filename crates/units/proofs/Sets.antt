@@ -1,7 +1,10 @@
 -- The sets that the block protection codes give.
 -- Assumes nothing.
-use Rattle.std.proofs.Common.{◌≡◌, ℕ, ◌^◌, ◌<◌, ltb, map, get_or, refl, arith, ltb→lt}
+use Rattle.std.proofs.Common.{◌≡◌, ℕ, ◌^◌, ◌<◌, ◌≤◌, Bool, true, false, T, Bor, List, Some, None, Option, MatchOption, min, if◌then◌else◌, ltb, map, sym, refl, subst, ap, ◌∙◌, arith, ltb→lt}
 use Rattle.std.specs.List.{range_with_len}
+use Rattle.std.specs.Option.{option_copied}
+use Rattle.std.specs.Slice.{IsItemAt}
+use Rattle.std.proofs.lemmas.Bool.{cond-false, cond_below, ltb-false}
 use Rattle.std.proofs.lemmas.List.FromFn.{get_or-map-range_with_len}
 use Rattle.units.specs.Codes.{set_of}
 use Rattle.units.proofs.Tests.{each_below}
@@ -11,22 +14,32 @@ pub set_small : (code : ℕ) → code < 64 → set_of code < 2 ^ 62
 unfolding set_of
 set_small code h = ltb→lt (set_of code) (2 ^ 62) (each_below 64 (λ c. ltb (set_of c) (2 ^ 62)) tt code h)
 
+-- What a code gives that may have more than six bits.
+abbrev pub given : ℕ → Option ℕ
+given code = if ltb code 64 then Some (set_of code) else None
+
+pub given_small : (code : ℕ) → MatchOption (given code) (64 ≤ code) (λ m. m < 2 ^ 62)
+given_small code = by (ltb code 64) refl where
+  by : (b : Bool) → ltb code 64 ≡ b → MatchOption (if b then Some (set_of code) else None) (64 ≤ code) (λ m. m < 2 ^ 62)
+  by true e = set_small code (ltb→lt code 64 (subst T (sym e) tt))
+  by false e = ltb-false code 64 e
+
 -- The table that has each code's set at its place.
-pub row : (code : ℕ) → code < 64 → get_or (map set_of (range_with_len 0 64)) code 0 ≡ set_of code
-row code h = get_or-map-range_with_len set_of 0 64 code code 0 h (omega arith)
+abbrev pub table : List ℕ
+table = map set_of (range_with_len 0 64)
 
-pub row_small : (code : ℕ) → code < 64 → get_or (map set_of (range_with_len 0 64)) code 0 < 2 ^ 62
-row_small code h = rw (row code h) (set_small code h)
+-- What is looked up in it.
+pub row : (code : ℕ) (r : Option (Bor ℕ)) → IsItemAt table code r → option_copied r ≡ given code
+row code None h = sym (cond-false (ltb code 64) _ _ (sym h.0))
+row code (Some x) h =
+    let below : code < 64 = ltb→lt code 64 (subst T h.0 tt) in
+    ap Some (h.1 ∙ get_or-map-range_with_len set_of 0 64 code code x.now below (omega arith)) ∙ cond_below code 64 _ _ below
 
--- The rule at a few codes: the top block, eight sectors at the top, and the complement of the whole array.
-pub top_block : set_of 1 ≡ 0x3fffc00000000000
-unfolding set_of
-top_block = refl
-
-pub top_sectors : (set_of 20 ≡ 0x3fc0000000000000) × (set_of 21 ≡ 0x3fc0000000000000)
-unfolding set_of
-top_sectors = (refl, refl)
-
-pub none_left : set_of 38 ≡ 0
-unfolding set_of
-none_left = refl
+-- The first code that protects just the set, as a search finds it that tries codes which protect nothing too.
+pub smallest : (set codes : ℕ) (o : Option ℕ) →
+    MatchOption o ((k : ℕ) → 0 ≤ k → k < codes → k < 64 → set_of k ≡ set → ⊥)
+    (λ i. (0 ≤ i) × (i < codes) × ((i < 64) × (set_of i ≡ set)) × ((k : ℕ) → 0 ≤ k → k < i → k < 64 → set_of k ≡ set → ⊥)) →
+    MatchOption o ((k : ℕ) → k < min codes 64 → set_of k ≡ set → ⊥)
+    (λ i. (i < min codes 64) × (set_of i ≡ set) × ((k : ℕ) → k < i → set_of k ≡ set → ⊥))
+smallest set codes None none = λ k h. none k (omega arith) (omega arith) (omega arith)
+smallest set codes (Some i) (low, high, found, below) = (omega arith, found.1, λ k h. below k (omega arith) h (omega arith))

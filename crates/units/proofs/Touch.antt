@@ -51,11 +51,10 @@ touching_right r h =
     let low = unit_at r.first in
     let high = unit_at r.last in
     let top : high + 1 ≤ 62 = omega (arith, unit_small r.last p.1) in
-    let order : low ≤ high + 1 = omega (arith, unit_mono r.first r.last p.0) in
     record {
       small = omega (arith, pow_pos low, pow_mono top);
       each_byte = λ b q. has_run low (high + 1) (unit_at b) (unit_mono r.first b q.0) (omega (arith, unit_mono b r.last q.1));
-      each_unit = λ u e. let w = has_run_only low (high + 1) u order e in byte_of r u p.0 p.1 w.0 (omega arith);
+      each_unit = λ u e. let w = has_run_only low (high + 1) u e in byte_of r u p.0 p.1 w.0 (omega arith);
     }
 
 -- In a range that cuts no unit lie all the bytes of the units that it touches.
@@ -65,8 +64,7 @@ aligned_holds r h a b e =
     let p = inside_parts r h in
     let low = unit_at r.first in
     let high = unit_at r.last in
-    let order : low ≤ high + 1 = omega (arith, unit_mono r.first r.last p.0) in
-    let w = has_run_only low (high + 1) (unit_at b) order e in
+    let w = has_run_only low (high + 1) (unit_at b) e in
     let q = and_parts (eqb r.first (first_of low)) (eqb (r.last + 1) (first_of (high + 1))) a in
     let begins : r.first ≡ first_of low = eqb-true r.first (first_of low) q.0 in
     let ends : r.last + 1 ≡ first_of (high + 1) = eqb-true (r.last + 1) (first_of (high + 1)) q.1 in (

@@ -1,32 +1,30 @@
 -- What ranges touch together.
 -- Assumes nothing.
-use Rattle.std.proofs.Common.{◌≡◌, ℕ, suc, ◌+◌, ◌^◌, ◌<◌, ◌≤◌, Bool, true, false, cond, ltb, ◌⊎◌, List, [], ◌∷◌, length, Some, None, Ok, fold, Option, sym, refl, ap, ◌∙◌, inl, inr, ⊎_elim, arith}
-use Rattle.std.specs.List.{prefix_len, AllByRecursion as All}
+use Rattle.std.proofs.Common.{◌≡◌, ℕ, ◌+◌, ◌^◌, ◌<◌, Bool, true, false, cond, not, ◌⊎◌, List, [], ◌∷◌, Some, None, Ok, fold, Option, sym, refl, ap, ◌∙◌, inl, inr, ⊎_elim, arith}
+use Rattle.std.specs.List.{position_from, AllByRecursion as All}
 use Rattle.std.proofs.lemmas.Nat.{or_lt, pow_pos}
-use Rattle.std.proofs.lemmas.Bool.{ltb-false}
+use Rattle.std.proofs.lemmas.Iterator.Adapters.{position_from-zero}
+use Rattle.std.proofs.lemmas.Option.{none-some}
 use Rattle.units.specs.Units.{has, unit_at}
 use Rattle.units.specs.Ranges.{Among, Holds, United, aligned, first_failing, inside, plus, touching, union, unless}
 use Rattle.units.specs.declared.ranges.Range.{Range}
 use Rattle.units.specs.declared.ranges.RangeFault.{RangeFault}
 use Rattle.units.proofs.Bits.{has_bit, has_either, has_none, has_or}
-use Rattle.units.proofs.Faults.{none_told}
 use Rattle.units.proofs.Touch.{aligned_holds, touching_right}
 
-first_passes : (b : Bool) (n k : ℕ) → suc n ≤ cond b (1 + k) 0 → (b ≡ true) × (n ≤ k)
-first_passes true n k h = (refl, omega arith)
-first_passes false n k h = let z : ⊥ = omega arith in absurd z
+passing : (b : Bool) (i : ℕ) (o : Option ℕ) → cond (not b) (Some i) o ≡ None → (b ≡ true) × (o ≡ None)
+passing true i o e = (refl, e)
+passing false i o e = absurd (none-some i (sym e))
 
-all_pass : (test : Range → Bool) (rs : List Range) → length rs ≤ prefix_len test rs → All (λ r. test r ≡ true) rs
-all_pass test [] h = tt
-all_pass test (r ∷ rs) h =
-    let p = first_passes (test r) (length rs) (prefix_len test rs) h in
-    (p.0, all_pass test rs p.1)
+all_pass : (test : Range → Bool) (i : ℕ) (rs : List Range) → position_from (λ r. not (test r)) i rs ≡ None → All (λ r. test r ≡ true) rs
+all_pass test i [] e = tt
+all_pass test i (r ∷ rs) e =
+    let p = passing (test r) i (position_from (λ x. not (test x)) (i + 1) rs) e in
+    (p.0, all_pass test (i + 1) rs p.1)
 
 -- Where no range fails a test, each passes it.
 each_passes : (test : Range → Bool) (rs : List Range) → first_failing test rs ≡ None → All (λ r. test r ≡ true) rs
-each_passes test rs e =
-    let t = none_told (ltb (prefix_len test rs) (length rs)) (prefix_len test rs) (sym e) in
-    all_pass test rs (ltb-false (prefix_len test rs) (length rs) t)
+each_passes test rs e = all_pass test 0 rs (sym (position_from-zero (λ r. not (test r)) rs) ∙ e)
 
 -- A union has what was in the set before,
 kept : (rs : List Range) (m u : ℕ) → has m u ≡ 1 → has (fold plus m rs) u ≡ 1

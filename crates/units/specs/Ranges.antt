@@ -1,11 +1,13 @@
 -- Ranges of addresses, and the units that they touch.
 -- Assumes nothing.
-use Rattle.std.specs.Prelude.{◌≡◌, ℕ, ◌+◌, ◌-◌, ◌^◌, ◌<◌, ◌≤◌, Bool, cond, ◌&&◌, ◌⊎◌, List, [], ◌∷◌, length, Some, None, Ok, Err, fold, Option, Result, ◌==◌, bit_or, nat_le, nat_lt}
-use Rattle.std.specs.List.{prefix_len}
+use Rattle.std.specs.Prelude.{◌≡◌, ℕ, ◌+◌, ◌-◌, ◌^◌, ◌<◌, ◌≤◌, Bool, not, ◌&&◌, ◌⊎◌, List, [], ◌∷◌, Some, None, Ok, Err, fold, Option, Result, ◌==◌, bit_or, nat_le, nat_lt}
+use Rattle.std.specs.List.{position}
 use Rattle.units.specs.Units.{array_size, first_of, unit_at, has}
 use Rattle.units.specs.declared.ranges.Range.{Range}
 use Rattle.units.specs.declared.ranges.RangeFault.{RangeFault}
 use Rattle.units.specs.declared.ranges.RangeFault.TheVariants.{Beyond, Cut}
+use Rattle.refusals.specs.declared.RunFault.{RunFault}
+use Rattle.refusals.specs.declared.RunFault.TheVariants as run
 
 -- The range holds the byte at this address.
 abbrev pub Holds : Range → ℕ → Type 0
@@ -39,7 +41,12 @@ union rs = fold plus 0 rs
 
 -- The place of the first range that fails a test, from 0.
 abbrev pub first_failing : (Range → Bool) → List Range → Option ℕ
-first_failing test rs = cond (nat_lt (prefix_len test rs) (length rs)) (Some (prefix_len test rs)) None
+first_failing test rs = position (λ r. not (test r)) rs
+
+-- A range's fault as the run's.
+abbrev pub range_fault : RangeFault → RunFault
+range_fault (Beyond at) = run.Beyond at
+range_fault (Cut at) = run.Cut at
 
 -- A fault at a place, if there is one.
 abbrev pub unless : Option ℕ → (ℕ → RangeFault) → Result ℕ RangeFault → Result ℕ RangeFault

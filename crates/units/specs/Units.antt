@@ -1,7 +1,8 @@
 -- A serial flash of 2 MiB, cut into the 62 units that block protection tells apart: units 0 to 15 are the 4 KB sectors of
 -- block 0, units 16 to 45 the 64 KB blocks 1 to 30, units 46 to 61 the 4 KB sectors of block 31.
 -- Assumes nothing.
-use Rattle.std.specs.Prelude.{ℕ, ◌+◌, ◌-◌, ◌*◌, ◌/◌, ◌%◌, ◌^◌, cond, nat_lt}
+use Rattle.std.specs.Prelude.{ℕ, ◌+◌, ◌-◌, ◌*◌, ◌/◌, ◌^◌, cond, nat_lt}
+use Rattle.std.specs.Int.{bit_at}
 
 -- How many bytes the array has: the last address is one below.
 abbrev pub array_size : ℕ
@@ -17,7 +18,7 @@ unit_at a = cond (nat_lt a 0x10000) (a / 0x1000) (cond (nat_lt a 0x1f0000) (15 +
 
 -- A set of units is a number with unit u at bit u: 1 if the unit is in the set, 0 if not.
 unfoldable pub has : ℕ → ℕ → ℕ
-has m u = m / 2 ^ u % 2
+has m u = bit_at m u
 
 -- The set of all units.
 abbrev pub whole : ℕ

@@ -10,21 +10,22 @@ const BLOCK: u32 = 0x10000;
 /// Where block 31 begins.
 const TOP_BLOCK: u32 = 0x1f0000;
 
-const ARRAY_SIZE: u32 = 0x200000;
+/// How many bytes the array has: the last address is one below.
+pub const ARRAY_SIZE: u32 = 0x200000;
+
+/// How many units there are: the last is one below.
+pub const UNITS: u8 = 62;
 
 /// The unit that holds the byte at the address; `None` beyond the array.
 pub fn unit_at(address: u32) -> Option<u8>
     ensures value { result ≡ (if nat_lt address array_size then Some (unit_at address) else None) }
     ensures holds { MatchOption result (array_size ≤ address) (λ u. (u < 62) × (first_of u ≤ address) × (address < first_of (u + 1))) }
 {
-    if address >= ARRAY_SIZE {
-        None
-    } else if address >= TOP_BLOCK {
-        Some((46 + (address - TOP_BLOCK) / SECTOR) as u8)
-    } else if address >= BLOCK {
-        Some((15 + address / BLOCK) as u8)
-    } else {
-        Some((address / SECTOR) as u8)
+    match address {
+        0..BLOCK => Some((address / SECTOR) as u8),
+        BLOCK..TOP_BLOCK => Some((15 + address / BLOCK) as u8),
+        TOP_BLOCK..ARRAY_SIZE => Some((46 + (address - TOP_BLOCK) / SECTOR) as u8),
+        _ => None,
     }
 }
 
@@ -32,15 +33,11 @@ pub fn unit_at(address: u32) -> Option<u8>
 pub fn first_address(unit: u8) -> Option<u32>
     ensures { result ≡ (if nat_lt unit 62 then Some (first_of unit) else None) }
 {
-    let unit = unit as u32;
-    if unit >= 62 {
-        None
-    } else if unit >= 46 {
-        Some(TOP_BLOCK + (unit - 46) * SECTOR)
-    } else if unit >= 16 {
-        Some((unit - 15) * BLOCK)
-    } else {
-        Some(unit * SECTOR)
+    match unit {
+        0..16 => Some(u32::from(unit) * SECTOR),
+        16..46 => Some(u32::from(unit - 15) * BLOCK),
+        46..UNITS => Some(TOP_BLOCK + u32::from(unit - 46) * SECTOR),
+        _ => None,
     }
 }
 
@@ -48,10 +45,9 @@ pub fn first_address(unit: u8) -> Option<u32>
 fn unit_size(address: u32) -> u32
     ensures { result ≡ first_of (unit_at address + 1) - first_of (unit_at address) }
 {
-    if address >= BLOCK && address < TOP_BLOCK {
-        BLOCK
-    } else {
-        SECTOR
+    match address {
+        BLOCK..TOP_BLOCK => BLOCK,
+        _ => SECTOR,
     }
 }
 

@@ -76,11 +76,7 @@ pub fn set_of(code: u8) -> Option<u64>
     ensures value { result ≡ (if nat_lt code 64 then Some (set_of code) else None) }
     ensures small { MatchOption result (64 ≤ code) (λ m. m < 2 ^ 62) }
 {
-    if code < 64 {
-        Some(SETS[code as usize])
-    } else {
-        None
-    }
+    SETS.get(code as usize).copied()
 }
 
 /// The smallest code, of those below `codes`, that protects just this set.
@@ -89,13 +85,5 @@ pub fn code_of(set: u64, codes: u8) -> Option<u8>
         ((k : ℕ) → k < min codes 64 → set_of k ≡ set → ⊥)
         (λ c. (c < min codes 64) × (set_of c ≡ set) × ((k : ℕ) → k < c → set_of k ≡ set → ⊥)) }
 {
-    for code in 0..codes {
-        let Some(units) = set_of(code) else {
-            return None;
-        };
-        if units == set {
-            return Some(code);
-        }
-    }
-    None
+    (0..codes).find(|code| set_of(*code) == Some(set))
 }

@@ -3,24 +3,45 @@
 ghost use Rattle.std.specs.Prelude.{◌≡◌, ◌<◌, ◌≤◌, ◌⊎◌, IfOk, if◌then◌else◌, Some, None, Ok, MatchOption};
 ghost use Rattle.units.specs.declared.ranges.RangeFault.TheVariants.{Beyond};
 ghost use Rattle.units.specs.Units.{array_size};
-ghost use Rattle.units.specs.Ranges.{Touched, United, aligned, first_failing, inside, touching, union, unless, wished};
+ghost use Rattle.units.specs.Ranges.{Touched, United, aligned, first_failing, inside, range_fault, touching, union, unless, wished};
 
 use crate::address::{begins, ends, unit_at};
+use refusals::RunFault;
 
 /// The bytes from `first` to `last`, both included.
-#[derive(Clone, Copy)]
+#[derive(Clone, Copy, Debug, PartialEq, Eq)]
 pub struct Range {
     pub first: u32,
     pub last: u32,
 }
 
 /// Why ranges are no set of units; `at` is the place of the first at fault, from 0.
-#[derive(Clone, Copy)]
+#[derive(Clone, Copy, Debug, PartialEq, Eq)]
 pub enum RangeFault {
     /// It ends below its start, or has an address beyond the array.
     Beyond { at: usize },
     /// It begins or ends inside a unit.
     Cut { at: usize },
+}
+
+impl Range {
+    /// Whether it begins where a unit begins, and ends where one ends.
+    fn is_aligned(self) -> bool
+        ensures { result ≡ aligned self }
+    {
+        begins(self.first) && ends(self.last)
+    }
+}
+
+impl From<RangeFault> for RunFault {
+    ghost from_gives = { λ f r. r ≡ range_fault f };
+
+    fn from(fault: RangeFault) -> RunFault {
+        match fault {
+            RangeFault::Beyond { at } => RunFault::Beyond { at },
+            RangeFault::Cut { at } => RunFault::Cut { at },
+        }
+    }
 }
 
 /// The units that hold a byte of the range; `None` where it ends below its start or beyond the array.
@@ -36,23 +57,13 @@ pub fn touched(range: Range) -> Option<u64>
     Some((2u64 << high) - (1u64 << low))
 }
 
-/// Whether the range begins where a unit begins, and ends where one ends.
-fn is_aligned(range: Range) -> bool
-    ensures { result ≡ aligned range }
-{
-    begins(range.first) && ends(range.last)
-}
-
 /// The units that the ranges touch together, or the first that is not inside the array.
 fn touched_by_all(ranges: &[Range]) -> Result<u64, RangeFault>
     ensures { result ≡ unless (first_failing inside ranges.now) Beyond (Ok (union ranges.now)) }
 {
     let mut set = 0;
     for (at, range) in ranges.iter().enumerate() {
-        let Some(units) = touched(*range) else {
-            return Err(RangeFault::Beyond { at });
-        };
-        set |= units;
+        set |= touched(*range).ok_or(RangeFault::Beyond { at })?;
     }
     Ok(set)
 }
@@ -61,12 +72,7 @@ fn touched_by_all(ranges: &[Range]) -> Result<u64, RangeFault>
 fn first_cut(ranges: &[Range]) -> Option<usize>
     ensures { result ≡ first_failing aligned ranges.now }
 {
-    for (at, range) in ranges.iter().enumerate() {
-        if !is_aligned(*range) {
-            return Some(at);
-        }
-    }
-    None
+    ranges.iter().position(|range| !range.is_aligned())
 }
 
 /// The set of units that the ranges are made of. They may overlap, and no range gives the empty set.

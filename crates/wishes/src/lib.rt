@@ -9,25 +9,25 @@ ghost use Rattle.std.specs.Prelude.{◌≡◌, ◌+◌, ◌≤◌, length, Ok};
 
 use places::Places;
 use plan::wish::Term;
+use records::values::address_in;
 use refusals::SheetFault;
-use text::fields::{Field, Fields, same};
-use text::numbers::hex;
+use text::fields::{Field, Fields};
 use units::Range;
 
 // Now or kept.
+// Stays a function: neither a field nor a term is of this crate, so no impl of `TryFrom` may stand here.
 pub fn term_in(field: Field) -> Result<Term, SheetFault>
     ensures { result ≡ term_in (plain field.entry) }
 {
-    if same(field.text, b"now") {
-        Ok(Term::Now)
-    } else if same(field.text, b"kept") {
-        Ok(Term::Kept)
-    } else {
-        Err(SheetFault::Field { place: field.at })
+    match field.text {
+        b"now" => Ok(Term::Now),
+        b"kept" => Ok(Term::Kept),
+        _ => Err(SheetFault::Field { place: field.at }),
     }
 }
 
 // A range: six digits, a hyphen and six digits. A field may claim any place, so places stop at the largest number.
+#[tactic(auto, unfolding(crate::specs::Wishes::range_in))]
 pub fn range_in(field: Field) -> Result<Range, SheetFault>
     ensures { result ≡ range_in (plain field.entry) }
 {
@@ -37,25 +37,19 @@ pub fn range_in(field: Field) -> Result<Range, SheetFault>
     if last.len() != 6 {
         return Err(SheetFault::Field { place: field.at });
     }
-    let first = hex(
-        Field {
-            text: &field.text[0..6],
-            at: field.at,
-        },
-        6,
-    )? as u32;
+    let first = address_in(Field {
+        text: &field.text[0..6],
+        ..field
+    })?;
     if *hyphen != b'-' {
         return Err(SheetFault::Field {
             place: field.at.saturating_add(6),
         });
     }
-    let last = hex(
-        Field {
-            text: last,
-            at: field.at.saturating_add(7),
-        },
-        6,
-    )? as u32;
+    let last = address_in(Field {
+        text: last,
+        at: field.at.saturating_add(7),
+    })?;
     Ok(Range { first, last })
 }
 
@@ -63,8 +57,7 @@ pub fn range_in(field: Field) -> Result<Range, SheetFault>
 fn check(fields: Fields) -> Result<(), SheetFault>
     ensures { result ≡ good (ranges_in (left fields.entry).fields) (λ _. Ok tt) }
 {
-    let mut rest = fields;
-    while let Ok(field) = rest.next() {
+    for field in fields {
         range_in(field)?;
     }
     Ok(())
@@ -76,8 +69,7 @@ fn gather(fields: Fields, list: &mut Places<Range>)
     ensures count { list.old.len + length (readable (left fields.entry).fields) ≤ length list.old.slots.now → list.new.len ≡ list.old.len + length (readable (left fields.entry).fields) }
     ensures same { list.new.slots.ghost_name ≡ list.old.slots.ghost_name }
 {
-    let mut rest = fields;
-    while let Ok(field) = rest.next() {
+    for field in fields {
         let Ok(range) = range_in(field) else {
             return;
         };
@@ -89,14 +81,13 @@ fn gather(fields: Fields, list: &mut Places<Range>)
 
 // Reads the ranges into the first of the places, and says how many there are. All fields are read before any place is
 // written: refused, the places are as before.
+// Stays places and a count: the places are the caller's, and there is no heap.
 pub fn ranges_in(fields: Fields, slots: &mut [Range]) -> Result<usize, SheetFault>
     ensures answer { result ≡ ranges_told (length slots.old) (left fields.entry).fields }
     ensures after { slots.new ≡ ranges_laid (left fields.entry).fields slots.old }
 {
     check(fields)?;
-    if let Err(_) = fields.at_most(slots.len()) {
-        return Err(SheetFault::Room);
-    }
+    fields.at_most(slots.len()).map_err(|_| SheetFault::Room)?;
     let mut list = Places::new(slots);
     gather(fields, &mut list);
     Ok(list.entries().len())

@@ -1,9 +1,7 @@
-use Rattle.std.proofs.Common.{◌≡◌}
-use Rattle.places.specs.Pushed.{Added}
-use Rattle.plan.specs.Plan.{sweep, due, opcode}
+use Rattle.std.proofs.Common.{◌==◌}
+use Rattle.plan.specs.Plan.{sweep}
+use Rattle.units.specs.Units.{has}
 use Rattle.plan.proofs.commands.sweep.Given as goal
 
 abbrev pub invariant-loop-unit : goal.invariant-loop-unit
-invariant-loop-unit l =
-    Added (sweep (due l.lock l.locks l.«set») (opcode l.lock) l.unit) l.initial.list.slots.now l.initial.list.len l.list.slots.now l.list.len
-    × (l.list.slots.ghost_name ≡ l.initial.list.slots.ghost_name)
+invariant-loop-unit g l = g.S.Sink.takes (sweep (λ u. has l.«set» u == 1) l.code l.unit) l.initial.to l.to

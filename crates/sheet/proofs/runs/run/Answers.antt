@@ -1,49 +1,60 @@
-use Rattle.std.proofs.Common.{length, refl, ap, arith}
-use Rattle.output.proofs.Pour.{onto, onto_as, onto_line, onto_back, onto_end}
+use Rattle.std.proofs.Common.{◌≡◌, length, refl, sym, ap, ◌∙◌, arith, rules}
+use Rattle.output.proofs.Pour.{onto, onto_as, onto_length, onto_line, onto_back, onto_end, poured_in}
 use Rattle.sheet.specs.Bench.{desk_of}
-use Rattle.sheet.proofs.Turns.{turn, no_more, ends_whole, ends_short}
+use Rattle.sheet.specs.Sheet.{answers}
+use Rattle.text.specs.Lines.{lines, lines_left}
+use Rattle.sheet.proofs.Turns.{turn, ends_whole, ends_short}
 use Rattle.sheet.proofs.runs.run.Goals as goal
 
-pub loop-rest-init : goal.loop-rest-init
-loop-rest-init c = (onto (omega arith), omega arith)
+pub loop-line-init : goal.loop-line-init
+loop-line-init c =
+    let all = ap (λ d. answers d 0 (lines c.args.input.now)) (sym c.empty-bench.ensures) in
+    let left : lines c.args.input.now ≡ lines_left c.into_iter-line-iterator.result = search rules in
+    record {
+      can = search rules;
+      ends = search rules;
+      onto = onto_as (all ∙ ap (answers (desk_of c.empty-bench.result) 0) left) (onto _ _ (omega arith));
+      share = omega (arith, ap length left);
+    }
 
 pub returns-in-Err : goal.returns-in-Err
 returns-in-Err c =
     let t =
-    turn (desk_of c.loop-rest.bench) (desk_of c.obey-answer.new.self) c.loop-rest.number c.loop-rest.rest.now
-    c.split_line-split.result.line.now c.split_line-split.result.rest.now c.obey-answer.result
-    (c.split_line-split.ensures.all c.loop-rest-test.true) c.obey-answer.ensures.answer c.obey-answer.ensures.after
+    turn (desk_of c.loop-line.bench) (desk_of c.obey-answer.new.self) c.loop-line.number _ _ c.in-Some.line.now
+    c.obey-answer.result c.in-Some.ensures.steps c.obey-answer.ensures.answer c.obey-answer.ensures.after
     in
-    let e =
-    ends_short c.args.input.now c.args.out.now c.say.new.bytes c.say.new.len
-    (onto_back {h' = c.say.new.bytes} {a' = c.say.new.len} c.in-Err.ensures.text (onto_as t c.loop-rest.invariant.0))
-    in
-    let more = ap length (c.split_line-split.ensures.all c.loop-rest-test.true) in
+    let p = onto_back {is = c.say.new.output} c.in-Err.ensures.text (onto_as t c.loop-line.invariant.onto) in
+    let e = ends_short c.args.input.now _ c.say.new.output p in
+    let lent = p.lent in
+    let more = ap length c.in-Some.ensures.steps in
     let short = c.in-Err.ensures.short in
     let back = c.in-Err.ensures.text.room in
-    let long = c.loop-rest.auto.out in
-    let share = c.loop-rest.invariant.1 in
-    record { ends = e.ends; out = e.out; front = e.front; within = omega (arith, c.in-Err.ensures.text.long, c.loop-rest.invariant.0.within); fits = λ h. let z : ⊥ = omega arith in elim z [ ] }
+    let long = onto_length c.loop-line.invariant.onto in
+    let share = c.loop-line.invariant.share in
+    record { ends = e.ends; out = search rules; front = search rules; within = poured_in p; fits = λ h. let z : ⊥ = omega arith in elim z [ ] }
 
-pub loop-rest-preserved : goal.loop-rest-preserved
-loop-rest-preserved c =
+pub loop-line-preserved : goal.loop-line-preserved
+loop-line-preserved c =
     let t =
-    turn (desk_of c.loop-rest.bench) (desk_of c.obey-answer.new.self) c.loop-rest.number c.loop-rest.rest.now
-    c.split_line-split.result.line.now c.split_line-split.result.rest.now c.obey-answer.result
-    (c.split_line-split.ensures.all c.loop-rest-test.true) c.obey-answer.ensures.answer c.obey-answer.ensures.after
+    turn (desk_of c.loop-line.bench) (desk_of c.obey-answer.new.self) c.loop-line.number _ _ c.in-Some.line.now
+    c.obey-answer.result c.in-Some.ensures.steps c.obey-answer.ensures.answer c.obey-answer.ensures.after
     in
-    let more = ap length (c.split_line-split.ensures.all c.loop-rest-test.true) in
+    let more = ap length c.in-Some.ensures.steps in
     let short = c.in_default.ensures.short in
     let whole = c.in_default.ensures.text.long in
-    let share = c.loop-rest.invariant.1 in (
-      onto_line {h' = c.say.new.bytes} {a' = c.say.new.len} c.in_default.ensures.text (onto_as t c.loop-rest.invariant.0),
-      omega arith,
-    )
+    let share = c.loop-line.invariant.share in
+    record {
+      can = search rules;
+      ends = search rules;
+      onto = onto_line {is = c.say.new.output} c.in_default.ensures.text (onto_as t c.loop-line.invariant.onto);
+      share = omega arith;
+    }
 
 pub returns : goal.returns
+unfolding answers
 returns c =
-    let n = no_more (desk_of c.loop-rest.bench) c.loop-rest.number c.loop-rest.rest.now c.loop-rest-test.false in
-    let e =
-    ends_whole c.args.input.now c.args.out.now c.loop-rest.out c.loop-rest.len (onto_end (onto_as n c.loop-rest.invariant.0))
-    in
-    record { ends = e.ends; out = e.out; front = e.front; within = omega (arith, c.loop-rest.auto.out, c.loop-rest.invariant.0.within); fits = λ h. refl }
+    let n = ap (answers (desk_of c.loop-line.bench) c.loop-line.number) c.in-None.ensures.steps.0 in
+    let p = onto_end (onto_as n c.loop-line.invariant.onto) in
+    let e = ends_whole c.args.input.now _ c.loop-line.output p in
+    let lent = p.lent in
+    record { ends = e.ends; out = search rules; front = search rules; within = poured_in p; fits = λ h. refl }
