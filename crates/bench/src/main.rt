@@ -13,9 +13,9 @@ fn main(rt: HostRuntime) -> io::Result<()> {
     let heap = rt.alloc();
     let mut input = Vec::new(heap);
     rt.stdin().read_to_end(&mut input)?;
-    let Some(room) = text::lines::count_lines(&input).checked_mul(LONGEST_ANSWER) else {
-        return Err(AllocError.into());
-    };
+    let room = text::lines::count_lines(&input)
+        .checked_mul(LONGEST_ANSWER)
+        .ok_or(AllocError)?;
     let mut out = vec![in heap; 0u8; room]?;
     match sheet::run(&input, &mut out) {
         Ok(len) => rt.stdout().write_all(&out[0..len]),

@@ -1,8 +1,9 @@
 -- Masks: `and` distributes over `or`, so what lies inside a mask stays inside it.
 use Rattle.std.proofs.Common.{◌≡◌, ℕ, ◌-◌, ◌/◌, ◌^◌, ◌<◌, sym, refl, ap, ◌∙◌, mod-eq_of_lt, arith}
-use lib.Bits.{bit_and, bit_or, and_step, or_step, and_shr, or_shr, and_mask, and_le_r, and_comm}
+use lib.Bits.{bit_and, bit_or, bit_xor, and_step, or_step, and_shr, or_shr, and_mask, and_le_r, and_comm, and_self, xor_add_and}
 use lib.Arith.{bin_ind}
-use Rattle.std.proofs.lemmas.Nat.{and_assoc}
+use Rattle.std.proofs.lemmas.Nat.{and_assoc, and-not}
+use Rattle.std.specs.Int.{w64, bit_not}
 
 and_over_or : (a b c : ℕ) → bit_and (bit_or a b) c ≡ bit_or (bit_and a c) (bit_and b c)
 and_over_or =
@@ -40,3 +41,12 @@ inside_all k n h = and_mask n k ∙ mod-eq_of_lt h
 
 pub below_all : (n : ℕ) → bit_and n 4611686018427387903 ≡ n → n < 2 ^ 62
 below_all n e = let l = and_le_r n 4611686018427387903 in omega arith
+
+-- The bits of a number that another lacks.
+pub lacked : (n m : ℕ) → n < 2 ^ 64 → m < 2 ^ 62 → bit_and n (bit_not w64 m) ≡ bit_xor n (bit_and n m)
+lacked n m h k =
+    let parts = and-not 64 m n (omega arith) h in
+    let apart = xor_add_and n (bit_and n m) in
+    let twice : bit_and n (bit_and n m) ≡ bit_and n m =
+    and_comm n (bit_and n m) ∙ still_inside n m n (and_self n) in
+    omega (arith, parts, apart, twice, and_comm m n, and_comm (bit_not w64 m) n)

@@ -1,10 +1,13 @@
 // The effect of commands, as functions on values: what the chips and the picture of a chip share.
 ghost use Rattle.chip.specs.Effect.{number_of, part_of, bits2, bits_of, lock_bits, plain_face, Clear, Plain, order_of, bare, with_byte, with_two, at_address, accepts, locked, suspended, armed, armed_stored, second, written, lasting, relocked, locks_after, face_after, arming_after};
-ghost use Rattle.std.specs.Prelude.{◌≡◌, ◌+◌, ◌*◌, ◌^◌, ◌<◌, bit_and};
+ghost use Rattle.std.specs.Prelude.{◌≡◌, ◌==◌, ◌/◌, ◌%◌, ◌+◌, ◌*◌, ◌^◌, ◌<◌, bit_and, MatchBool};
 
 use crate::model::{
-    Arming, Bits, Bytes, Command, Face, Order, Part, RegisterWrite, Registers, Relock,
+    Arming, Bits, Bytes, Command, Face, Order, Part, RegisterWrite, Registers, Relock, Start,
 };
+
+// All 62 lock bits.
+pub const ALL_LOCKS: u64 = 0x3FFF_FFFF_FFFF_FFFF;
 
 // The part of a part number.
 impl From<u32> for Part {
@@ -37,9 +40,9 @@ pub fn bits_of(part: Part) -> Bits
     ensures { result ≡ bits_of part }
 {
     let (sr1, sr2, sr3, locks) = match part {
-        Part::Jw => (0xFC, 0xFB, 0xE4, 0x3FFF_FFFF_FFFF_FFFF),
+        Part::Jw => (0xFC, 0xFB, 0xE4, ALL_LOCKS),
         Part::Xa => (0xBC, 0, 0, 0),
-        Part::Other(_) => (0xFC, 0xFF, 0xFF, 0x3FFF_FFFF_FFFF_FFFF),
+        Part::Other(_) => (0xFC, 0xFF, 0xFF, ALL_LOCKS),
     };
     Bits {
         registers: Registers { sr1, sr2, sr3 },
@@ -47,7 +50,21 @@ pub fn bits_of(part: Part) -> Bits
     }
 }
 
+// Whether a chip of a part may start with these registers and lock bits: no bit is set that the part lacks.
+pub fn fits(part: Part, start: Start) -> bool
+    ensures { MatchBool result (Clear part start.registers × (bit_and start.locks (lock_bits part) ≡ start.locks)) (Clear part start.registers × (bit_and start.locks (lock_bits part) ≡ start.locks) → ⊥) }
+{
+    let bits = bits_of(part);
+    let r = start.registers;
+    r.sr1 & bits.registers.sr1 == r.sr1
+        && r.sr2 & bits.registers.sr2 == r.sr2
+        && r.sr3 & bits.registers.sr3 == r.sr3
+        && start.locks & bits.locks == start.locks
+}
+
 // The face with the bits that its part lacks taken for 0.
+// Stays a clause of each contract that no bit is set that the part lacks: as a ghost field of `Face` or `Registers` it
+// would be asked of everyone who makes one, also of the faces that this function makes plain.
 pub fn plain_face(face: Face) -> Face
     ensures value { result ≡ plain_face face }
     ensures plain { Plain result }
@@ -123,11 +140,7 @@ pub fn order_of(part: Part, command: Command) -> Order
         Bytes::One(a) => one_byte_order(part, command.code, a),
         Bytes::Two(a, b) => two_byte_order(part, command.code, a, b),
         Bytes::Three(a, b, c) => {
-            address_order(
-                part,
-                command.code,
-                a as u32 * 65536 + b as u32 * 256 + c as u32,
-            )
+            address_order(part, command.code, u32::from_be_bytes([0, a, b, c]))
         }
     }
 }
@@ -139,6 +152,14 @@ pub fn is_locked(face: Face) -> bool
 {
     let r = face.working;
     r.sr2 % 2 == 1 || (r.sr1 / 128 == 1 && (r.sr2 / 2 % 2 == 0 && !face.wp))
+}
+
+// Whether WPS reads 1: the lock bits decide what is protected.
+pub fn has_wps(face: Face) -> bool
+    ensures { result ≡ (face.working.sr3 / 4 % 2 == 1) }
+{
+    let r = face.working;
+    r.sr3 / 4 % 2 == 1
 }
 
 // Whether SUS reads 1.
@@ -163,7 +184,8 @@ pub fn is_armed_stored(arming: Arming) -> bool
 }
 
 // Whether an order is taken.
-// Stays a function of three values: of an order, a latch and a face, each of these functions needs others.
+// Stays a function of three values: only this one needs an order, a latch and a face together. A picture of a chip has
+// face and latch in a reading, a simulated chip has them in its memory and its line.
 pub fn accepts(order: Order, arming: Arming, face: Face) -> bool
     ensures { result ≡ accepts order arming face }
 {
@@ -237,13 +259,10 @@ fn relocked(change: Relock, locks: u64) -> u64
     ensures bound { locks < 2 ^ 62 → result < 2 ^ 62 }
 {
     match change {
-        Relock::Lock(u) => if u < 62 { locks | one_at(u) } else { locks },
-        Relock::Unlock(u) => if u < 62 {
-            locks ^ (locks & one_at(u))
-        } else {
-            locks
-        },
-        Relock::LockAll => 0x3FFF_FFFF_FFFF_FFFF,
+        Relock::Lock(unit) if unit < units::UNITS => locks | one_at(unit),
+        Relock::Unlock(unit) if unit < units::UNITS => locks & !one_at(unit),
+        Relock::Lock(_) | Relock::Unlock(_) => locks,
+        Relock::LockAll => ALL_LOCKS,
         Relock::UnlockAll => 0,
     }
 }
@@ -254,8 +273,7 @@ fn locks_after(part: Part, change: Relock, locks: u64) -> u64
 {
     match part {
         Part::Jw => relocked(change, locks),
-        Part::Xa => locks,
-        Part::Other(_) => locks,
+        Part::Xa | Part::Other(_) => locks,
     }
 }
 
@@ -266,8 +284,7 @@ pub fn face_after(order: Order, face: Face) -> Face
     ensures same { (result.part ≡ face.part) × (result.wp ≡ face.wp) }
 {
     match order {
-        Order::Ignored => face,
-        Order::Arm(_) => face,
+        Order::Ignored | Order::Arm(_) => face,
         Order::Write(write) => Face {
             working: written(face.part, write, face.working),
             ..face
@@ -286,7 +303,6 @@ pub fn arming_after(order: Order, arming: Arming) -> Arming
     match order {
         Order::Ignored => arming,
         Order::Arm(next) => next,
-        Order::Write(_) => Arming::Disarmed,
-        Order::Change(_) => Arming::Disarmed,
+        Order::Write(_) | Order::Change(_) => Arming::Disarmed,
     }
 }

@@ -106,6 +106,7 @@ pub enum Exchange {
     Send(Command),
 }
 
+// What comes back from an exchange.
 // Stays an enum of three: a `Result` of an `Option` would not say what an answer without a value means.
 #[derive(Clone, Copy, Debug, PartialEq, Eq)]
 pub enum Answer {

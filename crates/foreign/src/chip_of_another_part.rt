@@ -6,7 +6,7 @@ ghost use Rattle.std.proofs.Common.{rules};
 
 use crate::memory::Memory;
 use chip::interface::Chip;
-use chip::model::{Answer, Exchange, Question};
+use chip::model::{Answer, Exchange, Part, Question};
 
 #[derive(Clone, Copy)]
 pub struct ForeignChip {
@@ -20,7 +20,7 @@ impl ForeignChip {
     pub fn new(number: u32, sr1: u8, busy: u16, carry: u32) -> Option<ForeignChip>
         ensures { MatchOption result (Strange number × ((bit_and sr1 252 ≡ sr1) × ((busy ≤ 1000) × (carry ≤ 1000000))) → ⊥) (λ x. x.memory ≡ record { number = number; sr1 = sr1; wp = true; armed = false; busy = busy; carry = carry }) }
     {
-        if number >= 0x100_0000 || number == 0xEF8015 || number == 0xEF3015 {
+        if number >= 0x100_0000 || !matches!(Part::from(number), Part::Other(_)) {
             return None;
         }
         if sr1 & 0xFC != sr1 || busy > 1000 || carry > 1_000_000 {
@@ -44,44 +44,35 @@ impl Chip for ForeignChip {
 
     ghost sound = { Prim.search rules };
 
+    // Stays written apart from the simulated parts, which are to owe nothing to this chip, nor it to them.
     fn exchange(&mut self, e: Exchange) -> Answer {
         if self.memory.carry == 0 {
             return Answer::Down;
         }
-        let memory = Memory {
-            carry: self.memory.carry - 1,
-            ..self.memory
-        };
+        self.memory.carry -= 1;
         match e {
             Exchange::Ask(Question::Status1) => {
-                let wel = u32::from(memory.armed);
-                let busy = u32::from(memory.busy > 0);
-                self.memory = Memory {
-                    busy: memory.busy.saturating_sub(1),
-                    ..memory
-                };
-                Answer::Value(u32::from(memory.sr1) + 2 * wel + busy)
+                let wel = u32::from(self.memory.armed);
+                let busy = u32::from(self.memory.busy > 0);
+                self.memory.busy = self.memory.busy.saturating_sub(1);
+                Answer::Value(u32::from(self.memory.sr1) + 2 * wel + busy)
             }
             Exchange::Ask(Question::PartNumber) => {
-                self.memory = memory;
-                Answer::Value(if memory.busy == 0 {
-                    memory.number
+                Answer::Value(if self.memory.busy == 0 {
+                    self.memory.number
                 } else {
                     0xFF_FFFF
                 })
             }
             // it owes no answer to another question, and is upset by it
             Exchange::Ask(_) => {
-                self.memory = Memory {
-                    busy: 1000,
-                    armed: true,
-                    ..memory
-                };
+                self.memory.busy = 1000;
+                self.memory.armed = true;
                 Answer::Carried
             }
             // nor does it owe that a command changes nothing
             Exchange::Send(_) => {
-                self.memory = Memory { sr1: 0, ..memory };
+                self.memory.sr1 = 0;
                 Answer::Carried
             }
         }

@@ -4,6 +4,6 @@
 #![tactic(auto)]
 
 pub mod chip_of_another_part;
-pub mod memory;
+mod memory;
 #[cfg(test)]
 mod tests;

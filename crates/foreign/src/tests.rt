@@ -4,6 +4,7 @@ use session::Session;
 use std::test::Fail;
 
 // A look, with the number of its refusal.
+// Stays a number in `Err`: that is what a sheet tells, and what the tests pin.
 fn look(session: &mut Session<ForeignChip>) -> Result<u64, u8> {
     session.look().map_err(|fault| fault.number())
 }

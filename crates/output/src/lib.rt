@@ -14,7 +14,7 @@ ghost use Rattle.output.specs.Puts.{Puts};
 pub struct NoRoom;
 
 /// The bytes that a caller lends, and how many of the first of them are said so far.
-// Stays without a ghost field that bounds the length: past one, the check does not follow what a line leaves in the bytes.
+// Stays without a ghost field that bounds the length: behind one, the check does not follow what a line leaves in the bytes.
 #[derive(Drop)]
 pub struct Output<'a> {
     pub bytes: &'a mut [u8],
@@ -22,6 +22,7 @@ pub struct Output<'a> {
 }
 
 impl Output<'_> {
+    // Stays a line opened and kept, as the sheet's other answers: what writes a line could not be a parameter without a `requires`.
     /// Says the text as a line of its own.
     pub fn say_line(&mut self, text: &[u8]) -> Result<(), NoRoom>
         ensures { Said (text.now ++ (10 ∷ [])) result self.old self.new }
@@ -110,6 +111,7 @@ impl<'a> Line<'a> {
         Ok(())
     }
 
+    // Stays a cast where a digit becomes a byte, here and below: that it fits is proved.
     /// Writes `n` in decimal, with no zero in front.
     pub fn decimal(&mut self, n: usize) -> Result<(), NoRoom>
         ensures { Puts (decimal_text n) result self.old self.new }

@@ -28,8 +28,8 @@ impl JwMemory {
     }
 
     // Takes an order: a write under the stored arming goes into the stored registers too, and takes its time.
-    fn take(&mut self, order: Order, mut line: Line) -> Line
-        ensures { over (jw_held self.new) result ≡ taken order (over (jw_held self.old) line) }
+    fn take(&mut self, order: Order, line: &mut Line)
+        ensures { over (jw_held self.new) line.new ≡ taken order (over (jw_held self.old) line.old) }
     {
         let face = effect::face_after(order, self.face(line.wp));
         if let Order::Write(write) = order
@@ -41,7 +41,6 @@ impl JwMemory {
         self.working = face.working;
         self.locks = face.locks;
         self.arming = effect::arming_after(order, self.arming);
-        line
     }
 }
 
@@ -53,16 +52,12 @@ impl Memory for JwMemory {
     ghost sound = { Prim.search rules };
 
     fn started(start: Start) -> Option<JwMemory> {
-        let working = start.registers;
-        if working.sr1 & 0xFC != working.sr1 || working.sr2 & 0xFB != working.sr2 {
-            return None;
-        }
-        if working.sr3 & 0xE4 != working.sr3 || start.locks & 0x3FFF_FFFF_FFFF_FFFF != start.locks {
+        if !effect::fits(Part::Jw, start) {
             return None;
         }
         Some(JwMemory {
-            working,
-            stored: effect::lasting(working),
+            working: start.registers,
+            stored: effect::lasting(start.registers),
             locks: start.locks,
             arming: Arming::Disarmed,
         })
@@ -79,18 +74,16 @@ impl Memory for JwMemory {
     }
 
     #[tactic(auto, unfolding(chip::specs::Step::obeyed))]
-    fn obey(&mut self, command: Command, line: Line) -> Line {
+    fn obey(&mut self, command: Command, line: &mut Line) {
         let order = effect::order_of(Part::Jw, command);
         if effect::accepts(order, self.arming, self.face(line.wp)) {
-            self.take(order, line)
-        } else {
-            line
+            self.take(order, line);
         }
     }
 
     fn power(&mut self) {
         self.working = self.stored;
-        self.locks = 0x3FFF_FFFF_FFFF_FFFF;
+        self.locks = effect::ALL_LOCKS;
         self.arming = Arming::Disarmed;
     }
 }

@@ -25,9 +25,9 @@ pub(crate) trait Memory: Copy {
     fn held(&self) -> Held
         ensures { result ≡ held self.now };
 
-    // A command that comes while the chip is not busy; the line as it is then.
-    fn obey(&mut self, command: Command, line: Line) -> Line
-        ensures { over (held self.new) result ≡ obeyed command (over (held self.old) line) };
+    // A command that comes while the chip is not busy; it may set how long the line shows BUSY.
+    fn obey(&mut self, command: Command, line: &mut Line)
+        ensures { over (held self.new) line.new ≡ obeyed command (over (held self.old) line.old) };
 
     // Power off and on.
     fn power(&mut self)

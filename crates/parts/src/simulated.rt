@@ -32,19 +32,18 @@ impl<M: Memory> Simulated<M> {
         ensures { result ≡ over (M.held self.now.memory) self.now.line }
     {
         let held = self.memory.held();
-        let line = self.line;
         State {
             face: Face {
                 part: held.part,
                 working: held.working,
                 locks: held.locks,
-                wp: line.wp,
+                wp: self.line.wp,
             },
             stored: held.stored,
             arming: held.arming,
-            busy: line.busy,
-            slow: line.slow,
-            carry: line.carry,
+            busy: self.line.busy,
+            slow: self.line.slow,
+            carry: self.line.carry,
         }
     }
 }
@@ -58,11 +57,13 @@ fn status1(state: State) -> u32
     u32::from(state.face.working.sr1) + 2 * wel + busy
 }
 
-// The lock bit of a unit, 0 above the last.
+// The lock bit of a unit, 0 where there is none.
+// Stays a test before the shift: by `checked_shr` and `map_or` the search alone did not close the proof.
 fn lock_bit(locks: u64, unit: u8) -> u32
     ensures { result ≡ has locks unit }
 {
     if unit < 64 {
+        // Stays a cast: there is no `From` that narrows, and a remainder by 2 fits.
         ((locks >> unit) % 2) as u32
     } else {
         0
@@ -77,12 +78,12 @@ fn asked(question: Question, state: State) -> u32
     match question {
         Question::Status1 => status1(state),
         Question::Status2 => if ready {
-            state.face.working.sr2 as u32
+            u32::from(state.face.working.sr2)
         } else {
             0xFF
         },
         Question::Status3 => if ready {
-            state.face.working.sr3 as u32
+            u32::from(state.face.working.sr3)
         } else {
             0xFF
         },
@@ -121,7 +122,7 @@ impl<M: Memory> Chip for Simulated<M> {
             Exchange::Send(command) => {
                 let idle = state.busy == 0;
                 if idle {
-                    self.line = self.memory.obey(command, self.line);
+                    self.memory.obey(command, &mut self.line);
                 }
                 Answer::Carried
             }

@@ -11,6 +11,7 @@ use crate::line::Line;
 use crate::memory::Memory;
 use crate::simulated::Simulated;
 use crate::xa_memory::XaMemory;
+use chip::effect;
 use chip::model::{Arming, Bytes, Command, Part, Registers, Start};
 
 pub type W25x16a = Simulated<XaMemory>;
@@ -18,16 +19,15 @@ pub type W25x16a = Simulated<XaMemory>;
 impl XaMemory {
     // A register write that comes while it is not busy: SRP with /WP low locks the register.
     #[tactic(auto, using(chip::proofs::Ands::inside), unfolding(chip::specs::Step::obeyed, chip::specs::Effect::order_of, chip::specs::Effect::locked, chip::specs::Effect::suspended))]
-    fn write(&mut self, byte: u8, mut line: Line) -> Line
-        ensures { over (xa_held self.new) result ≡ obeyed (record { code = 1; bytes = One byte }) (over (xa_held self.old) line) }
+    fn write(&mut self, byte: u8, line: &mut Line)
+        ensures { over (xa_held self.new) line.new ≡ obeyed (record { code = 1; bytes = One byte }) (over (xa_held self.old) line.old) }
     {
         if !self.armed || (self.sr1 / 128 == 1 && !line.wp) {
-            return line;
+            return;
         }
         self.sr1 = byte & 0xBC;
         self.armed = false;
         line.busy = line.slow;
-        line
     }
 
     // A command without bytes that comes while it is not busy.
@@ -51,11 +51,13 @@ impl Memory for XaMemory {
     ghost sound = { Prim.search rules };
 
     fn started(start: Start) -> Option<XaMemory> {
-        let Registers { sr1, sr2, sr3 } = start.registers;
-        if sr1 & 0xBC != sr1 || sr2 != 0 || sr3 != 0 || start.locks != 0 {
+        if !effect::fits(Part::Xa, start) {
             return None;
         }
-        Some(XaMemory { sr1, armed: false })
+        Some(XaMemory {
+            sr1: start.registers.sr1,
+            armed: false,
+        })
     }
 
     fn held(&self) -> Held {
@@ -79,18 +81,11 @@ impl Memory for XaMemory {
     }
 
     #[tactic(auto, unfolding(chip::specs::Step::obeyed, chip::specs::Effect::order_of))]
-    fn obey(&mut self, command: Command, line: Line) -> Line {
+    fn obey(&mut self, command: Command, line: &mut Line) {
         match command.bytes {
-            Bytes::Zero => {
-                self.arm(command.code);
-                line
-            }
-            Bytes::One(byte) => if command.code == 0x01 {
-                self.write(byte, line)
-            } else {
-                line
-            },
-            Bytes::Two(_, _) | Bytes::Three(_, _, _) => line,
+            Bytes::Zero => self.arm(command.code),
+            Bytes::One(byte) if command.code == 0x01 => self.write(byte, line),
+            Bytes::One(_) | Bytes::Two(_, _) | Bytes::Three(_, _, _) => {}
         }
     }
 

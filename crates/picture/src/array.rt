@@ -7,7 +7,7 @@ ghost use Rattle.std.specs.Prelude.{◌≡◌, ◌<◌, ◌≤◌};
 
 use chip::model::Part;
 use refusals::RunFault;
-use units::Range;
+use units::{ARRAY_SIZE, Range};
 
 #[derive(Clone, Copy, Debug, PartialEq, Eq)]
 pub enum ArrayCommand {
@@ -51,7 +51,7 @@ impl ArrayCommand {
             ArrayCommand::EraseSector => 4096,
             ArrayCommand::EraseHalfBlock => 32768,
             ArrayCommand::EraseBlock => 65536,
-            ArrayCommand::EraseChip => 2097152,
+            ArrayCommand::EraseChip => ARRAY_SIZE,
         }
     }
 

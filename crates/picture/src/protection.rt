@@ -3,6 +3,7 @@ ghost use Rattle.chip.specs.Effect.{Plain};
 ghost use Rattle.picture.specs.Protection.{code, protected};
 ghost use Rattle.std.specs.Prelude.{◌≡◌, ◌<◌};
 
+use chip::effect;
 use chip::model::Face;
 
 // The block protection code.
@@ -18,7 +19,7 @@ fn code_of(face: Face) -> u8
 pub(crate) fn protected(face: Face) -> u64
     ensures { result ≡ protected face }
 {
-    if face.working.sr3 / 4 % 2 == 1 {
+    if effect::has_wps(face) {
         return face.locks;
     }
     let Some(set) = units::set_of(code_of(face)) else {

@@ -29,6 +29,7 @@ impl<'a, T: Copy> Places<'a, T> {
     }
 
     // One entry more; refused where all places are taken.
+    // Stays apart from a line's writing of one byte: that has its length elsewhere, and another refusal.
     #[tactic(auto, using(crate::proofs::Lay::laid_set))]
     pub fn push(&mut self, entry: T) -> Result<(), RunFault>
         ensures { MatchResult result (λ _. Adds (entry ∷ []) self.old self.new) (λ f. (f ≡ Full) × ((self.old.len ≡ length self.old.slots.now) × (self.new ≡ self.old))) }

@@ -1,7 +1,8 @@
 // The choice of a route.
 ghost use Rattle.plan.specs.Plan.{smallest, codes_of, by_lock_bits, locked_for_good, lock_fault, by_code, by_locks, by_either, chosen};
 ghost use Rattle.picture.specs.Protection.{protected};
-ghost use Rattle.std.specs.Prelude.{◌≡◌};
+ghost use Rattle.chip.specs.Effect.{locked};
+ghost use Rattle.std.specs.Prelude.{◌≡◌, if◌then◌else◌, Ok, Err};
 
 use crate::wish::{Route, Term, Wish};
 use chip::effect;
@@ -19,14 +20,6 @@ fn codes_of(part: Part) -> u8
     }
 }
 
-// Whether WPS reads 1.
-#[tactic(auto, unfolding(crate::specs::Plan::by_lock_bits))]
-pub(crate) fn has_wps(face: Face) -> bool
-    ensures { result ≡ by_lock_bits face }
-{
-    face.working.sr3 / 4 % 2 == 1
-}
-
 // Why locked registers cannot be written.
 #[tactic(auto, unfolding(crate::specs::Plan::locked_for_good))]
 fn lock_fault(face: Face) -> RunFault
@@ -39,47 +32,49 @@ fn lock_fault(face: Face) -> RunFault
     }
 }
 
-fn by_code(code: Option<u8>, face: Face) -> Result<Route, RunFault>
-    ensures { result ≡ by_code code face }
+// Refused where the registers are locked.
+fn unlocked(face: Face) -> Result<(), RunFault>
+    ensures { result ≡ (if locked face then Err (lock_fault face) else Ok tt) }
 {
-    let Some(code) = code else {
-        return Err(RunFault::NoCode);
-    };
     if effect::is_locked(face) {
         Err(lock_fault(face))
     } else {
-        Ok(Route::Settings(code))
+        Ok(())
     }
 }
 
+fn by_code(code: Option<u8>, face: Face) -> Result<Route, RunFault>
+    ensures { result ≡ by_code code face }
+{
+    let code = code.ok_or(RunFault::NoCode)?;
+    unlocked(face)?;
+    Ok(Route::Settings(code))
+}
+
+#[tactic(auto, unfolding(crate::specs::Plan::by_lock_bits))]
 fn by_locks(face: Face) -> Result<Route, RunFault>
     ensures { result ≡ by_locks face }
 {
-    if has_wps(face) || !effect::is_locked(face) {
-        Ok(Route::Locks)
-    } else {
-        Err(lock_fault(face))
+    if !effect::has_wps(face) {
+        unlocked(face)?;
     }
+    Ok(Route::Locks)
 }
 
 fn by_either(code: Option<u8>, face: Face) -> Result<Route, RunFault>
     ensures { result ≡ by_either code face }
 {
     match code {
-        Some(code) => if effect::is_locked(face) {
-            by_locks(face)
-        } else {
-            Ok(Route::Settings(code))
-        },
-        None => by_locks(face),
+        Some(code) if !effect::is_locked(face) => Ok(Route::Settings(code)),
+        _ => by_locks(face),
     }
 }
 
 // What is read of a chip, and what is wished of it.
 #[derive(Clone, Copy)]
 pub(crate) struct Task {
-    pub face: Face,
-    pub wish: Wish,
+    pub(crate) face: Face,
+    pub(crate) wish: Wish,
 }
 
 impl Task {

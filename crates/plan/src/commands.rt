@@ -8,6 +8,7 @@ use crate::sink::Sink;
 use crate::wish::Term;
 use chip::model::{Bytes, Command, Face};
 use refusals::RunFault;
+use units::UNITS;
 
 // 50h for now, 06h for what is stored too.
 fn arm(term: Term) -> Command
@@ -56,6 +57,7 @@ fn at_unit<S: Sink>(to: &mut S, code: u8, unit: u8) -> Result<(), RunFault>
     ensures { Writes S.room S.takes (at_unit code unit) result to.old to.new }
 {
     let Some(address) = units::first_address(unit) else {
+        // the callers' units are below 62
         unreachable()
     };
     let [_, high, middle, low] = address.to_be_bytes();
@@ -67,7 +69,7 @@ fn at_unit<S: Sink>(to: &mut S, code: u8, unit: u8) -> Result<(), RunFault>
 pub(crate) fn sweep<S: Sink>(to: &mut S, set: u64, code: u8) -> Result<(), RunFault>
     ensures { Writes S.room S.takes (sweep (λ u. has «set» u == 1) code 62) result to.old to.new }
 {
-    for unit in 0..62 {
+    for unit in 0..UNITS {
         if (set >> unit) % 2 == 1 {
             at_unit(to, code, unit)?;
         }

@@ -7,10 +7,11 @@ ghost use Rattle.chip.specs.declared.model.Part.TheVariants.{Jw, Xa};
 ghost use Rattle.refusals.specs.declared.RunFault.TheVariants.{Full};
 ghost use Rattle.std.specs.Prelude.{◌≡◌, ◌<◌, ◌≤◌, ◌||◌, [], ◌∷◌, length, IfOk, if◌then◌else◌, Err, ◌≢◌};
 
-use crate::choose::{Task, has_wps};
+use crate::choose::Task;
 use crate::commands::{armed, first_byte, second_byte, sweep, third_byte};
 use crate::sink::{Room, Sink};
 use crate::wish::{Route, Term, Wish};
+use chip::effect;
 use chip::model::{Bytes, Command, Part};
 use picture::picture::Picture;
 use places::Places;
@@ -23,13 +24,11 @@ const UNLOCK: u8 = 0x39;
 
 impl Task {
     // Whether WPS has to be lowered once a code is in.
+    #[tactic(auto, unfolding(crate::specs::Plan::by_lock_bits))]
     fn lowers_wps(self) -> bool
         ensures { result ≡ (by_lock_bits self.face || is_kept self.wish.term) }
     {
-        match self.wish.term {
-            Term::Now => has_wps(self.face),
-            Term::Kept => true,
-        }
+        effect::has_wps(self.face) || self.wish.term == Term::Kept
     }
 
     fn set_wps<S: Sink>(self, to: &mut S, term: Term, wps: bool) -> Result<(), RunFault>
@@ -69,7 +68,7 @@ impl Task {
         let locked = self.face.locks;
         sweep(to, wanted & !locked, LOCK)?;
         sweep(to, locked & !wanted, UNLOCK)?;
-        if has_wps(self.face) {
+        if effect::has_wps(self.face) {
             Ok(())
         } else {
             self.set_wps(to, Term::Now, true)

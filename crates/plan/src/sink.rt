@@ -38,7 +38,7 @@ impl Sink for Places<'_, Command> {
 // Room for so many commands. It keeps none of those that it takes.
 #[derive(Drop)]
 pub(crate) struct Room {
-    pub left: usize,
+    pub(crate) left: usize,
 }
 
 impl Sink for Room {

@@ -1,7 +1,7 @@
 // A line of a sheet as a record of borrowed fields, each with its place in the line.
-ghost use Rattle.records.specs.Records.{record_of, by_word, chip_of, key_of, judge_of, told_record, told_chip};
-ghost use Rattle.text.specs.Fields.{left};
-ghost use Rattle.std.specs.Prelude.{◌≡◌};
+ghost use Rattle.records.specs.Records.{record_of, by_word, chip_of, told_record, told_chip};
+ghost use Rattle.text.specs.Fields.{left, ended, after};
+ghost use Rattle.std.specs.Prelude.{◌≡◌, Ok};
 
 use refusals::SheetFault;
 use text::fields::{Field, Fields};
@@ -29,68 +29,41 @@ pub enum Record<'a> {
     Judge { code: Field<'a>, address: Field<'a> },
 }
 
-// The eight fields after the word `chip`.
-// Stays a read for each field, here and below: the checker covers no array of references whose length is a parameter.
-// It covers one of any type's values, but only fields are ever read, and each call would name that type and the count.
+// The eight fields after the word `chip`. That nothing comes after is left to the caller.
 fn chip_of<'a>(fields: &mut Fields<'a>) -> Result<ChipFields<'a>, SheetFault>
-    ensures { told_chip result ≡ chip_of (left fields.old) }
+    ensures { chip_of (left fields.old) ≡ after (told_chip result) (λ f. after (ended (left fields.new)) (λ _. Ok f)) }
 {
-    let part = fields.need()?;
-    let sr1 = fields.need()?;
-    let sr2 = fields.need()?;
-    let sr3 = fields.need()?;
-    let locks = fields.need()?;
-    let wp = fields.need()?;
-    let slow = fields.need()?;
-    let carry = fields.need()?;
-    fields.end()?;
     Ok(ChipFields {
-        part,
-        sr1,
-        sr2,
-        sr3,
-        locks,
-        wp,
-        slow,
-        carry,
+        part: fields.need()?,
+        sr1: fields.need()?,
+        sr2: fields.need()?,
+        sr3: fields.need()?,
+        locks: fields.need()?,
+        wp: fields.need()?,
+        slow: fields.need()?,
+        carry: fields.need()?,
     })
 }
 
-fn key_of<'a>(fields: &mut Fields<'a>) -> Result<Record<'a>, SheetFault>
-    ensures { told_record result ≡ key_of (left fields.old) }
-{
-    let level = fields.need()?;
-    fields.end()?;
-    Ok(Record::Key { level })
-}
-
-fn judge_of<'a>(fields: &mut Fields<'a>) -> Result<Record<'a>, SheetFault>
-    ensures { told_record result ≡ judge_of (left fields.old) }
-{
-    let code = fields.need()?;
-    let address = fields.need()?;
-    fields.end()?;
-    Ok(Record::Judge { code, address })
-}
-
-// What follows the word makes the record.
+// What follows the word makes the record, and nothing comes after.
 fn by_word<'a>(word: &[u8], mut fields: Fields<'a>) -> Result<Record<'a>, SheetFault>
     ensures { told_record result ≡ by_word word.now (left fields.entry) }
 {
-    match word {
-        b"look" => {
-            fields.end()?;
-            Ok(Record::Look)
-        }
-        b"judge" => judge_of(&mut fields),
-        b"key" => key_of(&mut fields),
-        b"power" => {
-            fields.end()?;
-            Ok(Record::Power)
-        }
-        b"chip" => Ok(Record::Chip(chip_of(&mut fields)?)),
-        _ => Err(SheetFault::Word),
-    }
+    let record = match word {
+        b"look" => Record::Look,
+        b"judge" => Record::Judge {
+            code: fields.need()?,
+            address: fields.need()?,
+        },
+        b"key" => Record::Key {
+            level: fields.need()?,
+        },
+        b"power" => Record::Power,
+        b"chip" => Record::Chip(chip_of(&mut fields)?),
+        _ => return Err(SheetFault::Word),
+    };
+    fields.end()?;
+    Ok(record)
 }
 
 // The record that a line is, or why it is none: its bytes, its word, its count of fields.

@@ -22,7 +22,7 @@ fn bits_in(field: Field, width: usize, bits: u64) -> Result<u64, SheetFault>
     if value & bits == value {
         Ok(value)
     } else {
-        Err(SheetFault::Field { place: field.at })
+        Err(field.misread())
     }
 }
 
@@ -37,13 +37,14 @@ fn register_in(field: Field, bits: u8) -> Result<u8, SheetFault>
 }
 
 // A level, 0 or 1.
+// Stays a function: an impl of `TryFrom` would have to stand beside the fields of a text, where no digit means a level yet.
 pub fn level_in(field: Field) -> Result<bool, SheetFault>
     ensures { result ≡ level_in (plain field.entry) }
 {
     match hex(field, 1)? {
         0 => Ok(false),
         1 => Ok(true),
-        _ => Err(SheetFault::Field { place: field.at }),
+        _ => Err(field.misread()),
     }
 }
 
@@ -56,19 +57,20 @@ fn count_in(field: Field, longest: usize, most: u32) -> Result<u32, SheetFault>
     if number <= most {
         Ok(number)
     } else {
-        Err(SheetFault::Field { place: field.at })
+        Err(field.misread())
     }
 }
 
 // The part that a word names.
-// Stays a function: neither a field nor a part is of this crate, so no impl of `TryFrom` may stand here.
+// Stays a function: an impl of `TryFrom` would have to stand beside the parts of a chip, and the words for them are the
+// sheet's.
 pub fn part_in(field: Field) -> Result<Part, SheetFault>
     ensures { result ≡ part_in (plain field.entry) }
 {
     match field.text {
         b"JW" => Ok(Part::Jw),
         b"XA" => Ok(Part::Xa),
-        _ => Err(SheetFault::Field { place: field.at }),
+        _ => Err(field.misread()),
     }
 }
 

@@ -27,6 +27,7 @@ pub(crate) fn ask<C: Chip>(chip: &mut C, question: Question) -> Result<u32, Cabl
 }
 
 // Why a wait failed, and whether SR1 was read before it did: each read showed BUSY.
+// Stays a flag beside the fault: the picture takes it as it is, whichever fault it comes with.
 #[derive(Clone, Copy)]
 pub(crate) struct WaitFault {
     pub(crate) fault: CableFault,

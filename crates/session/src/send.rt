@@ -14,10 +14,7 @@ use refusals::{CableFault, Sent};
 fn stores(order: Order, arming: Arming) -> bool
     ensures { result ≡ stores order arming }
 {
-    match order {
-        Order::Write(_) => effect::is_armed_stored(arming),
-        _ => false,
-    }
+    matches!(order, Order::Write(_)) && effect::is_armed_stored(arming)
 }
 
 // A chip, and the picture that follows what is sent to it.

@@ -14,10 +14,10 @@ use picture::array::ArrayCommand;
 use picture::picture::Picture;
 use plan::wish::{Term, Wish};
 use refusals::RunFault;
-use units::{ARRAY_SIZE, Range};
+use units::Range;
 
-// Stays without a model: that would hide the chip, and with it what holds of every chip of a caller's own type `C`, such as
-// that its part is a known one, on which key, power and reach rest. The type would also have to ask for `C: Chip`.
+// Stays without a model: tried, and it proves here, but it hides the chip, and with it what holds of every chip of a caller's own
+// type `C`, such as that its part is a known one, on which key, power and reach rest. It would also ask for `C: Chip`.
 #[derive(Drop)]
 pub struct Session<C> {
     chip: C,
@@ -74,9 +74,7 @@ impl<C: Chip> Session<C> {
         ensures verdict { Verdict result code address (view C.Chip.state self.now) }
     {
         let command = ArrayCommand::try_from(code)?;
-        if address >= ARRAY_SIZE {
-            return Err(RunFault::Beyond { at: 0 });
-        }
+        units::in_array(address)?;
         let picture = self.picture.ok_or(RunFault::Blind)?;
         // the address is in the array
         Ok(picture.obeys(command, address).unwrap())

@@ -1,6 +1,6 @@
 -- What each record of a sheet is answered, and what it leaves on the bench.
-use Rattle.std.specs.Prelude.{ℕ, Bool, cond, List, Some, None, Ok, Err, Option, Result, nat_lt}
-use Rattle.units.specs.Units.{array_size}
+use Rattle.std.specs.Prelude.{ℕ, Bool, cond, List, Some, None, Ok, Err, Option, Result}
+use Rattle.units.specs.Ranges.{in_array}
 use Rattle.chip.specs.Start.{started}
 use Rattle.chip.specs.Step.{keyed, powered}
 use Rattle.chip.specs.declared.model.State.{State}
@@ -11,7 +11,7 @@ use Rattle.picture.specs.declared.array.ArrayCommand.{ArrayCommand}
 use Rattle.records.specs.Records.{ChipText, RecordText, a_chip, a_look, a_key, a_power, a_judge, record_of}
 use Rattle.records.specs.Values.{part_in, values_in, level_in}
 use Rattle.refusals.specs.declared.RunFault.{RunFault}
-use Rattle.refusals.specs.declared.RunFault.TheVariants.{Code, Beyond}
+use Rattle.refusals.specs.declared.RunFault.TheVariants.{Code}
 use Rattle.refusals.specs.declared.SheetFault.{SheetFault}
 use Rattle.refusals.specs.declared.SheetFault.TheVariants.{NoChip, Run}
 use Rattle.session.specs.Calls.{look_answer, after_look, rekeyed_in, judge_answer}
@@ -93,9 +93,6 @@ judgeable (Some c) = Ok tt
 
 abbrev pub known_code : ℕ → Result (Unit {0}) RunFault
 known_code code = judgeable (array_command code)
-
-abbrev pub in_array : ℕ → Result (Unit {0}) RunFault
-in_array address = cond (nat_lt address array_size) (Ok tt) (Err (Beyond 0))
 
 abbrev pub command_in : FieldText → FieldText → Result (ℕ × ℕ) SheetFault
 command_in code address =

@@ -1,6 +1,6 @@
 // The bench on which a sheet is run: no chip yet, or a session over one.
 ghost use Rattle.records.specs.Records.{chip_text};
-ghost use Rattle.sheet.specs.Bench.{desk_of, told_start, next_start, told_look, next_look, told_key, next_key, told_power, next_power, told_judge, command_in, in_array, told, next};
+ghost use Rattle.sheet.specs.Bench.{desk_of, told_start, next_start, told_look, next_look, told_key, next_key, told_power, next_power, told_judge, command_in, told, next};
 ghost use Rattle.text.specs.Fields.{plain};
 ghost use Rattle.std.specs.Prelude.{◌≡◌, None};
 
@@ -12,7 +12,6 @@ use records::values;
 use refusals::{Placed, RunFault, SheetFault};
 use session::Session;
 use text::fields::Field;
-use units::ARRAY_SIZE;
 
 #[derive(Drop)]
 pub(crate) struct Bench {
@@ -114,28 +113,17 @@ impl Bench {
     }
 }
 
-// Refuses an address beyond the array.
-fn in_array(address: u32) -> Result<(), RunFault>
-    ensures { result ≡ in_array address }
-{
-    if address < ARRAY_SIZE {
-        Ok(())
-    } else {
-        Err(RunFault::Beyond { at: 0 })
-    }
-}
-
 // The command and the address to judge: the code is tried before the address is read.
 fn command_in(code: Field, address: Field) -> Result<(u8, u32), SheetFault>
     ensures { result ≡ command_in (plain code.entry) (plain address.entry) }
 {
     let c = values::code_in(code)?;
-    let _ = ArrayCommand::try_from(c).map_err(|fault| Placed {
+    ArrayCommand::try_from(c).map_err(|fault| Placed {
         fault,
         place: code.at,
     })?;
     let a = values::address_in(address)?;
-    in_array(a).map_err(|fault| Placed {
+    units::in_array(a).map_err(|fault| Placed {
         fault,
         place: address.at,
     })?;

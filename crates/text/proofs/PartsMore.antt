@@ -1,6 +1,8 @@
 -- The fields of a text are its first field and those past the tab.
-use Rattle.std.proofs.Common.{◌≡◌, ℕ, suc, ◌+◌, ◌<◌, ◌≤◌, Bool, true, false, cond, not, eqb, List, [], ◌∷◌, length, take, drop, Some, None, Err, Option, refl, ap, ◌∙◌, arith, length-drop}
+use Rattle.std.proofs.Common.{◌≡◌, ℕ, suc, ◌+◌, ◌<◌, ◌≤◌, Bool, true, false, cond, not, eqb, List, [], ◌∷◌, length, take, drop, Some, None, Err, Option, nat_lt, refl, ap, ◌∙◌, arith, rules, length-drop}
 use Rattle.std.specs.List.{prefix_len}
+use Rattle.std.specs.Option.{is_some}
+use Rattle.std.specs.Prelude.{IfSome}
 use Rattle.refusals.specs.declared.SheetFault.TheVariants.{Count}
 use Rattle.std.proofs.lemmas.List.{drop-drop}
 use Rattle.text.specs.Fields.{FieldText, parts, begun, ended_among, fields_from}
@@ -89,18 +91,19 @@ pub fields_few : (at : Option ℕ) (line : List ℕ) → length (fields_from at 
 fields_few None line = omega arith
 fields_few (Some at) line = omega (arith, parts_few at (drop at line), length-drop at line)
 
--- The same from a place in a line on, at a width that was counted.
+-- The same from a place in a line on, at a width that was counted, with the place where the next field starts.
 module _ (line rest : List ℕ) (at n : ℕ) (r : rest ≡ drop at line) (e : n ≡ prefix_len (other 9) rest) where
-  pub cut_more : n < length rest → parts at (drop at line) ≡ first_of n at rest ∷ parts (at + n + 1) (drop (at + n + 1) line)
-  cut_more h =
+  pub cut_field : (next : Option ℕ) → is_some next ≡ nat_lt n (length rest) → IfSome next (λ k. k ≡ at + n + 1)
+      → parts at (drop at line) ≡ first_of n at rest ∷ fields_from next line
+  cut_field (Some k) s i =
+      let within : n < length rest = search rules in
       let some : prefix_len (other 9) rest < length rest = omega arith in
       let m = parts_more at rest some in
       let d = drop-drop (n + 1) at line in
       let a : at + (n + 1) ≡ at + n + 1 = omega arith in
       cc
-
-  pub cut_last : length rest ≤ n → parts at (drop at line) ≡ first_of n at rest ∷ []
-  cut_last h =
+  cut_field None s i =
+      let beyond : length rest ≤ n = search rules in
       let none : length rest ≤ prefix_len (other 9) rest = omega arith in
       let m = parts_last at rest none in
       cc

@@ -1,5 +1,5 @@
 // The fields of a line.
-ghost use Rattle.refusals.specs.declared.SheetFault.TheVariants.{Count};
+ghost use Rattle.refusals.specs.declared.SheetFault.TheVariants.{Count, Field as field_at};
 ghost use Rattle.text.specs.Fields.{parts, plain, fields_from, fields_left, left, unread, told, next_of, ended, at_most, start_of};
 ghost use Rattle.std.specs.Iterator.{YieldsFirstBy, item_count};
 ghost use Rattle.std.specs.Prelude.{◌≡◌, ◌∷◌, drop};
@@ -14,8 +14,18 @@ pub struct Field<'a> {
     pub at: usize,
 }
 
+impl<'a> Field<'a> {
+    // The refusal of what the field says, told where it starts.
+    pub fn misread(self) -> SheetFault
+        ensures { result ≡ field_at self.entry.at }
+    {
+        SheetFault::Field { place: self.at }
+    }
+}
+
 // The fields of a line, read one after the other.
-// Stays without a model: a copy and a comparison need the line and the place, which the fields that are left do not give back.
+// Stays without a model: tried as an `impl Model` by the fields that are left; `Copy` is not supported where the model
+// has no inverse, nor are derived comparisons.
 #[derive(Clone, Copy, Debug, PartialEq, Eq)]
 pub struct Fields<'a> {
     line: &'a [u8],
@@ -25,6 +35,7 @@ pub struct Fields<'a> {
 
 impl<'a> Fields<'a> {
     // All fields of a line, of which there is at least one.
+    // Stays beside `From`: the line is not turned into fields, a reader of it is set up.
     pub fn of(line: &'a [u8]) -> Fields<'a>
         ensures { left result ≡ unread line.now }
     {
@@ -105,9 +116,5 @@ fn cut(line: &[u8], at: usize) -> (Field, Option<usize>)
         text: &rest[..width],
         at,
     };
-    if width < rest.len() {
-        (field, Some(at + width + 1))
-    } else {
-        (field, None)
-    }
+    (field, (width < rest.len()).then(|| at + width + 1))
 }

@@ -38,6 +38,7 @@ pub struct Lines<'a> {
 }
 
 impl<'a> Lines<'a> {
+    // Stays beside `From`: the text is not turned into lines, a reader of it is set up.
     pub fn of(text: &'a [u8]) -> Lines<'a>
         ensures { lines_left result ≡ lines text.now }
     {

@@ -32,7 +32,7 @@ pub fn hex(field: Field, width: usize) -> Result<u64, SheetFault>
     ensures small { IfOk result (λ v. v < 16 ^ width) }
 {
     if field.text.len() != width || width > 16 {
-        return Err(SheetFault::Field { place: field.at });
+        return Err(field.misread());
     }
     digits(field, 16)
 }
@@ -44,11 +44,12 @@ pub fn decimal(field: Field, longest: usize) -> Result<u32, SheetFault>
 {
     let length = field.text.len();
     if length == 0 || length > longest.min(9) {
-        return Err(SheetFault::Field { place: field.at });
+        return Err(field.misread());
     }
+    // Stays a cast: that nine digits fit is proved, and `try_from` would add a refusal that cannot come.
     let value = digits(field, 10)? as u32;
     if length > 1 && field.text[0] == b'0' {
-        return Err(SheetFault::Field { place: field.at });
+        return Err(field.misread());
     }
     Ok(value)
 }

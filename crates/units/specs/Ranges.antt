@@ -1,6 +1,6 @@
 -- Ranges of addresses, and the units that they touch.
 -- Assumes nothing.
-use Rattle.std.specs.Prelude.{◌≡◌, ℕ, ◌+◌, ◌-◌, ◌^◌, ◌<◌, ◌≤◌, Bool, not, ◌&&◌, ◌⊎◌, List, [], ◌∷◌, Some, None, Ok, Err, fold, Option, Result, ◌==◌, bit_or, nat_le, nat_lt}
+use Rattle.std.specs.Prelude.{◌≡◌, ℕ, cond, ◌+◌, ◌-◌, ◌^◌, ◌<◌, ◌≤◌, Bool, not, ◌&&◌, ◌⊎◌, List, [], ◌∷◌, Some, None, Ok, Err, fold, Option, Result, ◌==◌, bit_or, nat_le, nat_lt}
 use Rattle.std.specs.List.{position}
 use Rattle.units.specs.Units.{array_size, first_of, unit_at, has}
 use Rattle.units.specs.declared.ranges.Range.{Range}
@@ -47,6 +47,10 @@ first_failing test rs = position (λ r. not (test r)) rs
 abbrev pub range_fault : RangeFault → RunFault
 range_fault (Beyond at) = run.Beyond at
 range_fault (Cut at) = run.Cut at
+
+-- An address by itself is refused beyond the array, as the first and only range would be.
+abbrev pub in_array : ℕ → Result (Unit {0}) RunFault
+in_array address = cond (nat_lt address array_size) (Ok tt) (Err (run.Beyond 0))
 
 -- A fault at a place, if there is one.
 abbrev pub unless : Option ℕ → (ℕ → RangeFault) → Result ℕ RangeFault → Result ℕ RangeFault

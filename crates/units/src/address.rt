@@ -21,6 +21,7 @@ pub fn unit_at(address: u32) -> Option<u8>
     ensures value { result ≡ (if nat_lt address array_size then Some (unit_at address) else None) }
     ensures holds { MatchOption result (array_size ≤ address) (λ u. (u < 62) × (first_of u ≤ address) × (address < first_of (u + 1))) }
 {
+    // Stays a cast, in each arm: that a unit fits a byte is proved, and `try_from` would add a `None` that cannot come.
     match address {
         0..BLOCK => Some((address / SECTOR) as u8),
         BLOCK..TOP_BLOCK => Some((15 + address / BLOCK) as u8),

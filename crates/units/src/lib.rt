@@ -13,4 +13,4 @@ mod ranges;
 
 pub use address::{ARRAY_SIZE, UNITS, first_address, unit_at};
 pub use codes::{code_of, set_of};
-pub use ranges::{Range, RangeFault, touched, units_of};
+pub use ranges::{Range, RangeFault, in_array, touched, units_of};

@@ -3,9 +3,9 @@
 ghost use Rattle.std.specs.Prelude.{◌≡◌, ◌<◌, ◌≤◌, ◌⊎◌, IfOk, if◌then◌else◌, Some, None, Ok, MatchOption};
 ghost use Rattle.units.specs.declared.ranges.RangeFault.TheVariants.{Beyond};
 ghost use Rattle.units.specs.Units.{array_size};
-ghost use Rattle.units.specs.Ranges.{Touched, United, aligned, first_failing, inside, range_fault, touching, union, unless, wished};
+ghost use Rattle.units.specs.Ranges.{Touched, United, aligned, first_failing, in_array, inside, range_fault, touching, union, unless, wished};
 
-use crate::address::{begins, ends, unit_at};
+use crate::address::{ARRAY_SIZE, begins, ends, unit_at};
 use refusals::RunFault;
 
 /// The bytes from `first` to `last`, both included.
@@ -41,6 +41,17 @@ impl From<RangeFault> for RunFault {
             RangeFault::Beyond { at } => RunFault::Beyond { at },
             RangeFault::Cut { at } => RunFault::Cut { at },
         }
+    }
+}
+
+/// Refuses an address beyond the array.
+pub fn in_array(address: u32) -> Result<(), RunFault>
+    ensures { result ≡ in_array address }
+{
+    if address < ARRAY_SIZE {
+        Ok(())
+    } else {
+        Err(RunFault::Beyond { at: 0 })
     }
 }
 

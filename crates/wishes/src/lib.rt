@@ -15,14 +15,15 @@ use text::fields::{Field, Fields};
 use units::Range;
 
 // Now or kept.
-// Stays a function: neither a field nor a term is of this crate, so no impl of `TryFrom` may stand here.
+// Stays a function: an impl of `TryFrom` would have to stand beside the wishes of a plan, and the words for them are the
+// sheet's.
 pub fn term_in(field: Field) -> Result<Term, SheetFault>
     ensures { result ≡ term_in (plain field.entry) }
 {
     match field.text {
         b"now" => Ok(Term::Now),
         b"kept" => Ok(Term::Kept),
-        _ => Err(SheetFault::Field { place: field.at }),
+        _ => Err(field.misread()),
     }
 }
 
@@ -32,10 +33,10 @@ pub fn range_in(field: Field) -> Result<Range, SheetFault>
     ensures { result ≡ range_in (plain field.entry) }
 {
     let [_, _, _, _, _, _, hyphen, last @ ..] = field.text else {
-        return Err(SheetFault::Field { place: field.at });
+        return Err(field.misread());
     };
     if last.len() != 6 {
-        return Err(SheetFault::Field { place: field.at });
+        return Err(field.misread());
     }
     let first = address_in(Field {
         text: &field.text[0..6],
@@ -73,7 +74,7 @@ fn gather(fields: Fields, list: &mut Places<Range>)
         let Ok(range) = range_in(field) else {
             return;
         };
-        if let Err(_) = list.push(range) {
+        if list.push(range).is_err() {
             return;
         }
     }
