@@ -20,7 +20,7 @@ use refusals::RunFault;
 //
 // However the commands are then sent, each while the chip is not busy, and wherever the cable goes down: no unit is lost
 // that is protected before and in the wish, and none is protected that is in neither; all sent, the wish is met.
-// Stays places and a count, as `plan` has them.
+// Stays places and a count: the places are the caller's, and there is no heap.
 pub fn plan_for(picture: &Picture, wish: Wish, slots: &mut [Command]) -> Result<usize, RunFault>
     ensures plan { Plans (planned picture.now.reading.face wish.set wish.term) result slots.old slots.new }
     ensures enough { 126 ≤ length slots.old → result ≢ Err Full }

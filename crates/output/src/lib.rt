@@ -14,7 +14,8 @@ ghost use Rattle.output.specs.Puts.{Puts};
 pub struct NoRoom;
 
 /// The bytes that a caller lends, and how many of the first of them are said so far.
-// Stays without a ghost field that bounds the length: behind one, the check does not follow what a line leaves in the bytes.
+// Stays without a ghost field that bounds the length: tried, and behind one the check does not follow what a line leaves in
+// the bytes.
 #[derive(Drop)]
 pub struct Output<'a> {
     pub bytes: &'a mut [u8],
@@ -36,7 +37,8 @@ impl Output<'_> {
 }
 
 /// A line that is being written. Let go before it is kept, it is taken back.
-// Stays over the two parts of an output: the check knows nothing more of a struct that itself borrows, once a guard held it.
+// Stays over the two parts of an output: tried over a `&mut Output`, and after the guard is gone the check knows nothing of the
+// output any more, since that borrows itself.
 pub struct Line<'a> {
     bytes: &'a mut [u8],
     len: &'a mut usize,
@@ -111,7 +113,7 @@ impl<'a> Line<'a> {
         Ok(())
     }
 
-    // Stays a cast where a digit becomes a byte, here and below: that it fits is proved.
+    // Stays a cast where a digit becomes a byte, here and below: that it fits is proved, and `try_from` would be no plainer.
     /// Writes `n` in decimal, with no zero in front.
     pub fn decimal(&mut self, n: usize) -> Result<(), NoRoom>
         ensures { Puts (decimal_text n) result self.old self.new }

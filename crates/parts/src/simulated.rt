@@ -63,7 +63,7 @@ fn lock_bit(locks: u64, unit: u8) -> u32
     ensures { result ≡ has locks unit }
 {
     if unit < 64 {
-        // Stays a cast: there is no `From` that narrows, and a remainder by 2 fits.
+        // Stays a cast: that a remainder by 2 fits is proved, and `try_from` would add a refusal that cannot come.
         ((locks >> unit) % 2) as u32
     } else {
         0

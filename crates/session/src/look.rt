@@ -21,7 +21,8 @@ fn read_rest<C: Chip>(chip: &mut C) -> Result<Rest, CableFault>
     let sr2 = ask(chip, Question::Status2)?;
     let sr3 = ask(chip, Question::Status3)?;
     let locks = read_locks(chip)?;
-    // Stays a cast, here and below, after a mask: an answer is as wide as the widest.
+    // Stays a cast, here and in `picture_of`: that the masked answer fits a byte is proved, and `try_from` would add a refusal
+    // that cannot come.
     Ok(Rest {
         sr2: (sr2 & 0xFF) as u8,
         sr3: (sr3 & 0xFF) as u8,
