@@ -88,6 +88,9 @@ pub record Onward (text : List ℕ) (was : Line) (rest : List ℕ) (here : Line)
   pub cut : (is : Line) → Cut rest here is → Cut text was is
   pub within : Open here
 
+pub onward : {t : List ℕ} {a : Line} → Open a → Onward t a t a
+onward h = record { kept = λ is k. k; cut = λ is k. k; within = h }
+
 pub onward_as : {t u v : List ℕ} {w a : Line} → u ≡ v → Onward t w u a → Onward t w v a
 onward_as {t} {u} {v} {w} {a} e o = subst (λ x. Onward t w x a) e o
 
@@ -104,3 +107,7 @@ onward_cut rest {w} {a} {b} k o = o.cut b (cut_more rest k)
 
 pub onward_end : {t : List ℕ} {w a : Line} → Onward t w [] a → Kept t w a
 onward_end {t} {w} {a} o = o.kept a (kept_none o.within)
+
+pub puts_last : {A : Type 0} {t rest : List ℕ} {w a : Line} (r : Result A NoRoom) (b : Line) → Onward t w rest a → Puts rest r a b → Puts t r w b
+puts_last (Ok x) b o p = o.kept b p
+puts_last (Err e) b o p = o.cut b p

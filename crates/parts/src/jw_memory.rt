@@ -7,9 +7,10 @@ use chip::model::{Arming, Registers};
 
 #[derive(Clone, Copy)]
 pub struct JwMemory {
+    // first, since fields lie in this order and it is the one that is to be aligned
+    pub(crate) locks: u64,
     pub(crate) working: Registers,
     pub(crate) stored: Registers,
-    pub(crate) locks: u64,
     pub(crate) arming: Arming,
     // no bit is set that must read 0, and neither SRL nor SUS is stored
     ghost clear: { Clear Jw working },

@@ -5,9 +5,9 @@
 pub mod any;
 mod held;
 pub mod jw;
-mod jw_memory;
+pub mod jw_memory;
 mod line;
 mod memory;
 pub mod simulated;
 pub mod xa;
-mod xa_memory;
+pub mod xa_memory;

@@ -1,5 +1,5 @@
 -- The commands at the units of a set.
-use Rattle.std.proofs.Common.{◌≡◌, ℕ, zero, suc, ◌+◌, ◌-◌, ◌^◌, ◌<◌, ◌≤◌, Bool, true, false, cond, eqb, ◌&&◌, List, [], ◌++◌, length, min, refl, ap, ◌∙◌, le_refl, arith, length-append, append-nil, bit_and}
+use Rattle.std.proofs.Common.{◌≡◌, ℕ, zero, suc, ◌+◌, ◌-◌, ◌*◌, ◌^◌, ◌<◌, ◌≤◌, Bool, true, false, cond, eqb, ◌&&◌, List, [], ◌++◌, length, min, refl, ap, ◌∙◌, le_refl, arith, length-append, append-nil, bit_and}
 use Rattle.std.proofs.lemmas.Bool.{eq-eqb, ne_eqb}
 use Rattle.std.specs.Int.{bit_at, bit_not, w64}
 use Rattle.std.proofs.lemmas.Nat.Bits.{bit_at_and, bit_at_not, bit_at-lt}
@@ -27,6 +27,20 @@ sweep_longer test code n (suc d) =
     let g = sweep_grows test code (n + d) in
     let h = sweep_longer test code n d in
     rw e (omega arith)
+
+-- Each step of a sweep has at most two commands.
+pub step_short : (b : Bool) (code u : ℕ) → length (cond b (at_unit code u) []) ≤ 2
+step_short true code u = omega arith
+step_short false code u = omega arith
+
+pub sweep_short : (test : ℕ → Bool) (code n : ℕ) → length (sweep test code n) ≤ 2 * n
+unfolding sweep
+sweep_short test code zero = omega arith
+sweep_short test code (suc n) =
+    let a = length-append (sweep test code n) (cond (test n) (at_unit code n) []) in
+    let b = step_short (test n) code n in
+    let h = sweep_short test code n in
+    omega arith
 
 -- A sweep goes by what its test says of the units below its end.
 pub sweep_same : (p q : ℕ → Bool) (code n : ℕ) → ((u : ℕ) → u < n → p u ≡ q u) → sweep p code n ≡ sweep q code n

@@ -95,6 +95,7 @@ impl Task {
 // The commands that meet a wish on a chip with this picture, written into the first of the places, or why there are
 // none. Nothing is sent; refused, the places are as before. 126 places are enough for every plan.
 // Stays places and a length: the places are the caller's, and there is no heap.
+#[tactic(auto, using(crate::proofs::Short::chosen_fair, crate::proofs::Short::commands_short))]
 pub fn plan(picture: &Picture, wish: Wish, slots: &mut [Command]) -> Result<usize, RunFault>
     ensures plan { Plans (planned picture.now.reading.face wish.set wish.term) result slots.old slots.new }
     ensures enough { 126 ≤ length slots.old → result ≢ Err Full }

@@ -29,7 +29,9 @@ pub enum Record<'a> {
     Judge { code: Field<'a>, address: Field<'a> },
 }
 
-// The eight fields after the word `chip`. That nothing comes after is left to the caller.
+// The eight fields after the word `chip`. That nothing comes after is left to the caller. Inlined, since a call leaves its answer in
+// memory, and every record, of which a chip's is the largest, is then copied twice.
+#[inline(always)]
 fn chip_of<'a>(fields: &mut Fields<'a>) -> Result<ChipFields<'a>, SheetFault>
     ensures { chip_of (left fields.old) ≡ after (told_chip result) (λ f. after (ended (left fields.new)) (λ _. Ok f)) }
 {

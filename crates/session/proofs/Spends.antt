@@ -21,6 +21,9 @@ counting b k s = record { face = s.face; stored = s.stored; arming = s.arming; b
 pub counting_same : (b c k l : ℕ) (s : State) → b ≡ c → k ≡ l → counting b k s ≡ counting c l s
 counting_same b c k l s e f = ap (λ x. counting x k s) e ∙ ap (λ x. counting c x s) f
 
+pub spent_more : (n m : ℕ) (s : State) → spent m (spent n s) ≡ spent (n + m) s
+spent_more n m s = counting_same _ _ _ _ s (omega arith) (omega arith)
+
 spent_read : (n : ℕ) (s : State) → polled Status1 (charged (spent n s)) ≡ spent (n + 1) s
 spent_read n s = counting_same _ _ _ _ s (omega arith) (omega arith)
 

@@ -35,6 +35,9 @@ grows base s i h =
     omega (arith, mul-add base s 1)
 
 module _ (base at : ℕ) (xs : List ℕ) (sum i : ℕ) (so_far : SoFar base at xs sum i) where
+  pub sum_under : (most : ℕ) → 0 < base → i ≤ most → sum < base ^ most
+  sum_under most b k = omega (arith, so_far.small, pow-le-pow_right {n = base} b {i = i} {j = most} k)
+
   -- The number of the digits before the last has room for one more.
   pub sum_room : 0 < base → i < length xs → base * sum + base ≤ base ^ length xs
   sum_room b k =

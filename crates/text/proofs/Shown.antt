@@ -45,7 +45,7 @@ unfolding read
 zero_in_front = refl
 
 -- A hexadecimal digit is any that is told a value, a decimal one is 0 to 9.
-hexadecimal : (b : ℕ) → digit 16 b ≡ nibble b
+pub hexadecimal : (b : ℕ) → digit 16 b ≡ nibble b
 hexadecimal b = grind (arith, nat_tests)
 
 decimal : (b : ℕ) → digit 10 b ≡ cond (nat_le 48 b && nat_le b 57) (Some (b - 48)) None

@@ -1,7 +1,8 @@
 -- The fields of a line.
-use Rattle.std.specs.Prelude.{ℕ, ◌+◌, cond, List, [], ◌∷◌, length, drop, Some, None, Ok, Err, Option, Result, ◌==◌, nat_le}
+use Rattle.std.specs.Prelude.{ℕ, ◌+◌, ◌≡◌, cond, List, [], ◌∷◌, length, drop, Some, None, Ok, Err, Option, Result, ◌==◌, nat_le}
 use Rattle.refusals.specs.declared.SheetFault.{SheetFault}
 use Rattle.refusals.specs.declared.SheetFault.TheVariants.{Count}
+use Rattle.std.specs.Iterator.{YieldsFirstBy}
 use Rattle.std.specs.List.{slice_get}
 use Rattle.std.specs.Option.{option_map_or}
 use Rattle.std.specs.Result.{result_map_both}
@@ -61,6 +62,11 @@ next_among (f ∷ fs) size = (Ok f, record { fields = fs; size = size })
 -- The next field, or the refusal where none is left; and what is unread then.
 abbrev pub next_of : Unread → Result FieldText SheetFault × Unread
 next_of u = next_among u.fields u.size
+
+-- The iterator's answer: the first of the fields that were left, of which the later ones are left then, or that there is none;
+-- and the line is as long as it was.
+abbrev pub Gives : Fields → Option Field → Fields → Type 0
+Gives was r is = YieldsFirstBy plain fields_left was r is × (length is.line.now ≡ length was.line.now)
 
 -- That these fields are none.
 abbrev pub ended_among : List FieldText → ℕ → Result (Unit {0}) SheetFault

@@ -1,7 +1,7 @@
 // The fields of a line.
 ghost use Rattle.refusals.specs.declared.SheetFault.TheVariants.{Count, Field as field_at};
-ghost use Rattle.text.specs.Fields.{parts, plain, fields_from, fields_left, left, unread, told, next_of, ended, at_most, start_of};
-ghost use Rattle.std.specs.Iterator.{YieldsFirstBy, item_count};
+ghost use Rattle.text.specs.Fields.{parts, plain, fields_from, fields_left, left, unread, told, next_of, ended, at_most, start_of, Gives};
+ghost use Rattle.std.specs.Iterator.{item_count};
 ghost use Rattle.std.specs.Prelude.{◌≡◌, ◌∷◌, drop};
 
 use crate::scan::{skip, up_to};
@@ -42,7 +42,8 @@ impl<'a> Fields<'a> {
         Fields { line, at: Some(0) }
     }
 
-    // The next field, of which there has to be one.
+    // The next field, of which there has to be one. Inlined, since every field of every record is read by it.
+    #[inline(always)]
     pub fn need(&mut self) -> Result<Field<'a>, SheetFault>
         ensures { next_of (left self.old) ≡ (told result, left self.new) }
     {
@@ -65,14 +66,17 @@ impl<'a> Fields<'a> {
     }
 
     // Whether no more than `most` fields are left.
+    // Stays a loop: it reads no more than `most` of them, where a count would go to the end of the line.
     pub fn at_most(&self, most: usize) -> Result<(), SheetFault>
         ensures { result ≡ at_most most (left self.now) }
     {
-        if self.count() <= most {
-            Ok(())
-        } else {
-            Err(self.miscounted())
+        let mut rest = *self;
+        for read in 0..most {
+            if rest.next().is_none() {
+                return Ok(());
+            }
         }
+        rest.end()
     }
 
     // The place where the field that is left as number `n`, counted from 0, starts; 0 where there is none.
@@ -97,7 +101,7 @@ impl<'a> Fields<'a> {
 impl<'a> Iterator for Fields<'a> {
     type Item = Field<'a>;
 
-    ghost next_gives = { YieldsFirstBy plain fields_left };
+    ghost next_gives = { Gives };
 
     ghost remaining = { item_count fields_left };
 

@@ -7,15 +7,12 @@ use crate::fields::Field;
 use refusals::SheetFault;
 
 // What a hexadecimal digit counts; its letters are capitals.
+#[tactic(auto, using(crate::proofs::Shown::hexadecimal))]
 pub fn hex_digit(b: u8) -> Option<u8>
     ensures value { result ≡ nibble b }
     ensures small { IfSome result (λ d. d < 16) }
 {
-    match b {
-        b'0'..=b'9' => Some(b - b'0'),
-        b'A'..=b'F' => Some(b - b'A' + 10),
-        _ => None,
-    }
+    digit(b, 16)
 }
 
 // What a digit counts in a base up to 16.
@@ -23,7 +20,11 @@ fn digit(b: u8, base: u8) -> Option<u8>
     ensures value { result ≡ digit base b }
     ensures small { IfSome result (λ d. d < base) }
 {
-    hex_digit(b).filter(|d| *d < base)
+    match b {
+        b'0'..=b'9' if b - b'0' < base => Some(b - b'0'),
+        b'A'..=b'F' if b - b'A' + 10 < base => Some(b - b'A' + 10),
+        _ => None,
+    }
 }
 
 // The number that a field of exactly `width` hexadecimal digits tells. No field may have more than 16.

@@ -12,6 +12,10 @@ use Rattle.units.specs.declared.ranges.RangeFault.{RangeFault}
 use Rattle.units.proofs.Bits.{has_bit, has_either, has_none, has_or}
 use Rattle.units.proofs.Touch.{aligned_holds, touching_right}
 
+pub none_told : {X : Type 0} (b : Bool) (x : X) → None ≡ cond b (Some x) None → b ≡ false
+none_told true x e = absurd (none-some x e)
+none_told false x e = refl
+
 passing : (b : Bool) (i : ℕ) (o : Option ℕ) → cond (not b) (Some i) o ≡ None → (b ≡ true) × (o ≡ None)
 passing true i o e = (refl, e)
 passing false i o e = absurd (none-some i (sym e))

@@ -85,5 +85,6 @@ pub fn code_of(set: u64, codes: u8) -> Option<u8>
         ((k : ℕ) → k < min codes 64 → set_of k ≡ set → ⊥)
         (λ c. (c < min codes 64) × (set_of c ≡ set) × ((k : ℕ) → k < c → set_of k ≡ set → ⊥)) }
 {
-    (0..codes).find(|code| set_of(*code) == Some(set))
+    // from 64 on no code gives any set
+    (0..codes.min(64)).find(|code| set_of(*code) == Some(set))
 }

@@ -5,7 +5,7 @@ use Rattle.wishes.proofs.gather.Goals as goal
 
 pub loop-field-preserved : goal.loop-field-preserved
 loop-field-preserved c =
-    let more = readable_more _ _ _ c.in-Ok.range c.in-Some.ensures.steps c.in-Ok.ensures in
+    let more = readable_more _ _ _ c.in-Ok.range c.in-Some.ensures.steps.0 c.in-Ok.ensures in
     let pushed : Adds (c.in-Ok.range ∷ []) c.loop-field.list c.push.new.self = search rules in
     let k = laid_on c.in-Ok.range _ _ more pushed.added in
     let so_far = c.loop-field.invariant in
@@ -20,13 +20,13 @@ loop-field-preserved c =
 
 pub returns-in_default : goal.returns-in_default
 returns-in_default c =
-    let stop = readable_stop _ _ _ c.in_default.field-0 c.in-Some.ensures.steps c.in_default.ensures in
+    let stop = readable_stop _ _ _ c.in_default.field-0 c.in-Some.ensures.steps.0 c.in_default.ensures in
     let k = laid_out c.loop-field.list.slots.now c.loop-field.list.len _ stop in
     search rules
 
 pub returns-then-is_err : goal.returns-then-is_err
 returns-then-is_err c =
-    let more = ap length (readable_more _ _ _ c.in-Ok.range c.in-Some.ensures.steps c.in-Ok.ensures) in
+    let more = ap length (readable_more _ _ _ c.in-Ok.range c.in-Some.ensures.steps.0 c.in-Ok.ensures) in
     let full : (c.loop-field.list.len ≡ length c.loop-field.list.slots.now) × (c.push.new.self ≡ c.loop-field.list) = search rules in
     let k = laid_full c.loop-field.list.slots.now c.loop-field.list.len _ full.0 in
     record {
@@ -37,5 +37,5 @@ returns-then-is_err c =
 
 pub returns : goal.returns
 returns c =
-    let k = laid_out c.loop-field.list.slots.now c.loop-field.list.len _ (readable_none _ c.in-None.ensures.steps.0) in
+    let k = laid_out c.loop-field.list.slots.now c.loop-field.list.len _ (readable_none _ c.in-None.ensures.steps.0.0) in
     search rules
