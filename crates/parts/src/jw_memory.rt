@@ -7,7 +7,7 @@ use chip::model::{Arming, Registers};
 
 #[derive(Clone, Copy)]
 pub struct JwMemory {
-    // first, since fields lie in this order and it is the one that is to be aligned
+    // first, since fields lie in this order: behind the registers it would leave a gap, and the chip take 40 bytes for 32
     pub(crate) locks: u64,
     pub(crate) working: Registers,
     pub(crate) stored: Registers,

@@ -42,7 +42,7 @@ impl<'a> Fields<'a> {
         Fields { line, at: Some(0) }
     }
 
-    // The next field, of which there has to be one. Inlined, since every field of every record is read by it.
+    // The next field, of which there has to be one. Inlined, for what reads a record.
     #[inline(always)]
     pub fn need(&mut self) -> Result<Field<'a>, SheetFault>
         ensures { next_of (left self.old) ≡ (told result, left self.new) }
@@ -66,7 +66,7 @@ impl<'a> Fields<'a> {
     }
 
     // Whether no more than `most` fields are left.
-    // Stays a loop: it reads no more than `most` of them, where a count would go to the end of the line.
+    // Stays a loop: it reads no more than `most` of them, where a count would go to the end of the line, and `nth` one field on.
     pub fn at_most(&self, most: usize) -> Result<(), SheetFault>
         ensures { result ≡ at_most most (left self.now) }
     {

@@ -35,7 +35,7 @@ row code (Some x) h =
     let below : code < 64 = ltb→lt code 64 (subst T h.0 tt) in
     ap Some (h.1 ∙ get_or-map-range_with_len set_of 0 64 code code x.now below (omega arith)) ∙ cond_below code 64 _ _ below
 
--- The first code that protects just the set, as a search up to `top` finds it that would try codes which protect nothing too.
+-- The first code that protects just the set, as a search below `top` finds it.
 pub smallest : (set codes top : ℕ) (o : Option ℕ) → top ≡ min codes 64 →
     MatchOption o ((k : ℕ) → 0 ≤ k → k < top → k < 64 → set_of k ≡ set → ⊥)
     (λ i. (0 ≤ i) × (i < top) × ((i < 64) × (set_of i ≡ set)) × ((k : ℕ) → 0 ≤ k → k < i → k < 64 → set_of k ≡ set → ⊥)) →
